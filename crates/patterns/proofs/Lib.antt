@@ -1,0 +1,9 @@
+pub mod Sums
+pub mod Lists
+pub mod Bits
+pub mod Values
+pub mod Packed
+pub mod Added
+pub mod Toggled
+pub mod Weighed
+pub mod Hexing

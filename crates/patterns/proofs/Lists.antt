@@ -1,0 +1,145 @@
+-- Lists as sets, and sets as lists. Assumes nothing.
+use mathlib.Core.Path.{_≡_, refl, sym, ap, ap₂, _∙_, subst}
+use mathlib.Core.List.{List, [], _∷_, _++_}
+use mathlib.Core.Bool.{Bool, true, false, cond, _&&_, _||_, and-true, and-false, or-false, or-assoc}
+use mathlib.Core.Logic.{_⊎_, inl, inr, ⊎-elim}
+use Prim.Native.Nat.{ℕ, zero, suc, _+_, _<_, _≤_}
+use native.Mathlib.Omega.{arith}
+use lib.Dec.{eqb, ltb}
+use lib.ListN.{length}
+use Rattle.std.proofs.shelf.Lists.{length-append, append-nil}
+use Rattle.std.proofs.shelf.Tests.{cases-bool, cases-eq, cases-lt, eq-eqb, ne-eqb, eqb-true, eqb-false, lt-ltb, le-ltb, or-left, or-right, or-parts, both-ways, and-parts, and-from}
+use Rattle.patterns.specs.Sets.{Set, _⊕_, has, parity, Apart, members, all-below}
+use Rattle.patterns.proofs.Sums.{plus-zero, plus-cross}
+
+-- ---- what a list has
+
+pub eqb-swap : (x y : ℕ) → eqb x y ≡ eqb y x
+eqb-swap x y =
+    ⊎-elim (λ e. e ∙ sym (eq-eqb y x (sym (eqb-true x y e)))) (λ e. e ∙ sym (ne-eqb y x (λ k. eqb-false x y e (sym k)))) (cases-bool (eqb x y))
+
+pub has-here : (x : ℕ) (xs : List ℕ) → has (x ∷ xs) x ≡ true
+has-here x xs = or-left (eqb x x) (has xs x) (eq-eqb x x refl)
+
+pub has-append : (xs ys : List ℕ) (k : ℕ) → has (xs ++ ys) k ≡ (has xs k || has ys k)
+has-append [] ys k = refl
+has-append (x ∷ xs) ys k = ap (λ b. eqb x k || b) (has-append xs ys k) ∙ sym (or-assoc (eqb x k) (has xs k) (has ys k))
+
+-- a new item in front changes it, and no other
+pub has-more : (x : ℕ) (xs : List ℕ) (k : ℕ) → has xs x ≡ false → has (x ∷ xs) k ≡ (eqb x k ⊕ has xs k)
+has-more x xs k fresh =
+    let P : Bool → Type 0 = λ b. (b || has xs k) ≡ (b ⊕ has xs k) in
+    ⊎-elim
+    (λ e. subst P (sym e) (sym (ap (λ b. true ⊕ b) (ap (has xs) (sym (eqb-true x k e)) ∙ fresh))))
+    (λ e. subst P (sym e) refl)
+    (cases-bool (eqb x k))
+
+-- ---- parities
+
+pub parity-add : (s t : Set) (xs : List ℕ) → parity (λ k. s k ⊕ t k) xs ≡ (parity s xs ⊕ parity t xs)
+parity-add s t [] = refl
+parity-add s t (x ∷ xs) = ap (λ b. (s x ⊕ t x) ⊕ b) (parity-add s t xs) ∙ plus-cross (s x) (t x) (parity s xs) (parity t xs)
+
+pub parity-same : (s t : Set) (xs : List ℕ) → ((k : ℕ) → has xs k ≡ true → s k ≡ t k) → parity s xs ≡ parity t xs
+parity-same s t [] h = refl
+parity-same s t (x ∷ xs) h = ap₂ _⊕_ (h x (has-here x xs)) (parity-same s t xs (λ k e. h k (or-right (eqb x k) (has xs k) e)))
+
+pub parity-none : (s : Set) (xs : List ℕ) → ((k : ℕ) → has xs k ≡ true → s k ≡ false) → parity s xs ≡ false
+parity-none s [] h = refl
+parity-none s (x ∷ xs) h = ap₂ _⊕_ (h x (has-here x xs)) (parity-none s xs (λ k e. h k (or-right (eqb x k) (has xs k) e)))
+
+pub parity-one : (x : ℕ) (xs : List ℕ) → Apart xs → parity (eqb x) xs ≡ has xs x
+parity-one x [] h = refl
+parity-one x (y ∷ ys) h =
+    let P : Bool → Type 0 = λ b. (b ⊕ parity (eqb x) ys) ≡ (b || has ys x) in
+    let known = parity-one x ys (h .1) in
+    let there : P (eqb x y) = ⊎-elim
+    (λ e. subst P (sym e) (ap (λ b. true ⊕ b) (known ∙ ap (has ys) (eqb-true x y e) ∙ h .0)))
+    (λ e. subst P (sym e) known)
+    (cases-bool (eqb x y)) in
+    there ∙ ap (λ b. b || has ys x) (eqb-swap x y)
+
+pub parity-swap : (xs ys : List ℕ) → Apart xs → Apart ys → parity (has xs) ys ≡ parity (has ys) xs
+parity-swap [] ys h k = parity-none (has []) ys (λ v _. refl)
+parity-swap (x ∷ xs) ys h k =
+    parity-same (has (x ∷ xs)) (λ v. eqb x v ⊕ has xs v) ys (λ v _. has-more x xs v (h .0))
+    ∙ parity-add (eqb x) (has xs) ys
+    ∙ ap₂ _⊕_ (parity-one x ys k) (parity-swap xs ys (h .1) k)
+
+-- ---- the members below n, as a list
+
+-- one turn of a loop that gathers them
+pub members-more : (n : ℕ) (s : Set) → members (n + 1) s ≡ members n s ++ cond (s n) (n ∷ []) []
+members-more n s = let e : n + 1 ≡ suc n = omega arith in ap (λ m. members m s) e
+
+has-last : (b : Bool) (n k : ℕ) → has (cond b (n ∷ []) []) k ≡ (eqb n k && b)
+has-last true n k = or-false (eqb n k) ∙ sym (and-true (eqb n k))
+has-last false n k = sym (and-false (eqb n k))
+
+pub has-members : (n : ℕ) (s : Set) (k : ℕ) → has (members n s) k ≡ (ltb k n && s k)
+has-members zero s k = ap (λ b. b && s k) (sym (le-ltb k 0 (omega arith)))
+has-members (suc n) s k =
+    has-append (members n s) (cond (s n) (n ∷ []) []) k
+    ∙ ap₂ _||_ (has-members n s k) (has-last (s n) n k)
+    ∙ ⊎-elim
+    (λ e.
+    ap₂ (λ a b. (a && s k) || (b && s n)) (le-ltb k n (omega arith)) (eq-eqb n k (sym e))
+    ∙ ap s (sym e)
+    ∙ sym (ap (λ b. b && s k) (lt-ltb k (suc n) (omega arith))))
+    (λ e.
+    ap (λ b. (ltb k n && s k) || (b && s n)) (ne-eqb n k (λ i. e (sym i)))
+    ∙ or-false (ltb k n && s k)
+    ∙ ap (λ b. b && s k) (⊎-elim (λ l. lt-ltb k n l ∙ sym (lt-ltb k (suc n) (omega arith))) (λ l. le-ltb k n l ∙ sym (le-ltb k (suc n) (omega arith))) (cases-lt k n)))
+    (cases-eq k n)
+
+pub members-within : (n : ℕ) (s : Set) (k : ℕ) → has (members n s) k ≡ true → k < n
+members-within n s k h =
+    ⊎-elim (λ l. l) (λ l. absurd (both-ways (ltb k n && s k) (ap (λ b. b && s k) (le-ltb k n l)) (sym (has-members n s k) ∙ h))) (cases-lt k n)
+
+apart-append-last : (xs : List ℕ) (n : ℕ) → Apart xs → has xs n ≡ false → Apart (xs ++ n ∷ [])
+apart-append-last [] n a h = (refl, tt)
+apart-append-last (x ∷ xs) n a h =
+    let off = or-parts (eqb x n) (has xs n) h in
+    (has-append xs (n ∷ []) x ∙ ap₂ _||_ (a .0) (ap (λ b. b || false) (eqb-swap n x ∙ off .0)), apart-append-last xs n (a .1) (off .1))
+
+pub members-apart : (n : ℕ) (s : Set) → Apart (members n s)
+members-apart zero s = tt
+members-apart (suc n) s = go (s n) (members-apart n s)
+  where
+    fresh : has (members n s) n ≡ false
+    fresh = has-members n s n ∙ ap (λ b. b && s n) (le-ltb n n (omega arith))
+
+    go : (b : Bool) → Apart (members n s) → Apart (members n s ++ cond b (n ∷ []) [])
+    go true before = apart-append-last (members n s) n before fresh
+    go false before = subst Apart (sym (append-nil (members n s))) before
+
+pub members-same : (n : ℕ) (s t : Set) → ((k : ℕ) → k < n → s k ≡ t k) → members n s ≡ members n t
+members-same zero s t h = refl
+members-same (suc n) s t h = ap₂ (λ xs b. xs ++ cond b (n ∷ []) []) (members-same n s t (λ k l. h k (omega arith))) (h n (omega arith))
+
+pub members-le : (n : ℕ) (s : Set) → length (members n s) ≤ n
+members-le zero s = omega arith
+members-le (suc n) s = let e = length-append (members n s) (cond (s n) (n ∷ []) []) in omega (arith, e, members-le n s, last-le (s n) n)
+  where
+    last-le : (b : Bool) (n : ℕ) → length (cond b (n ∷ []) []) ≤ 1
+    last-le true n = omega arith
+    last-le false n = omega arith
+
+-- ---- tests of all numbers below n
+
+pub all-below-at : (n : ℕ) (s : Set) → all-below n s ≡ true → (k : ℕ) → k < n → s k ≡ true
+all-below-at zero s h k l = absurd (omega arith)
+all-below-at (suc n) s h k l =
+    let both = and-parts (all-below n s) (s n) h in
+    ⊎-elim (λ e. ap s e ∙ both .1) (λ e. all-below-at n s (both .0) k (omega arith)) (cases-eq k n)
+
+pub all-below-from : (n : ℕ) (s : Set) → ((k : ℕ) → k < n → s k ≡ true) → all-below n s ≡ true
+all-below-from zero s h = refl
+all-below-from (suc n) s h = and-from (all-below n s) (s n) (all-below-from n s (λ k l. h k (omega arith))) (h n (omega arith))
+
+pub all-below-fails : (n : ℕ) (s : Set) (k : ℕ) → k < n → s k ≡ false → all-below n s ≡ false
+all-below-fails n s k l h =
+    ⊎-elim (λ e. absurd (both-ways (s k) h (all-below-at n s e k l))) (λ e. e) (cases-bool (all-below n s))
+
+pub all-below-more : (n : ℕ) (s : Set) → all-below n s ≡ true → s n ≡ true → all-below (n + 1) s ≡ true
+all-below-more n s h k = let e : n + 1 ≡ suc n = omega arith in ap (λ m. all-below m s) e ∙ and-from (all-below n s) (s n) h k

@@ -1,0 +1,102 @@
+-- The weight of a pattern counts its set. Assumes nothing.
+use mathlib.Core.Path.{_≡_, refl, sym, ap, ap₂, _∙_}
+use mathlib.Core.List.{List, [], _∷_}
+use mathlib.Core.Bool.{Bool, true, false, cond, _&&_}
+use mathlib.Core.Logic.{⊎-elim}
+use Prim.Native.Nat.{ℕ, zero, suc, _+_, _-_, _*_, _/_, _%_, _^_, _<_, _≤_}
+use native.Mathlib.Omega.{arith}
+use lib.Count.{ones, ones-step}
+use lib.Dec.{eqb}
+use lib.ListN.{length, getD}
+use lib.Pow.{shr-shr, pow-add}
+use Rattle.std.proofs.shelf.Bits.{shr-below}
+use Rattle.std.proofs.shelf.Tests.{cases-bool, eqb-true}
+use Rattle.patterns.specs.Sets.{Set, tally}
+use Rattle.patterns.specs.Patterns.{bit, member, byte-weight, weight, width, Well}
+use Rattle.patterns.proofs.Values.{digit-back}
+use Rattle.patterns.proofs.Packed.{member-below}
+
+pub tally-same : (n : ℕ) (s t : Set) → ((k : ℕ) → k < n → s k ≡ t k) → tally n s ≡ tally n t
+tally-same zero s t h = refl
+tally-same (suc n) s t h = ap₂ (λ b r. cond b 1 0 + r) (h n (omega arith)) (tally-same n s t (λ k l. h k (omega arith)))
+
+pub tally-none : (n : ℕ) (s : Set) → ((k : ℕ) → k < n → s k ≡ false) → tally n s ≡ 0
+tally-none zero s h = refl
+tally-none (suc n) s h = ap₂ (λ b r. cond b 1 0 + r) (h n (omega arith)) (tally-none n s (λ k l. h k (omega arith)))
+
+-- the first a, and the rest
+pub tally-split : (a n : ℕ) (s : Set) → tally (n + a) s ≡ tally a s + tally n (λ k. s (k + a))
+tally-split a zero s = let z : 0 + a ≡ a = omega arith in ap (λ m. tally m s) z ∙ plus-nothing (tally a s)
+  where
+    plus-nothing : (x : ℕ) → x ≡ x + 0
+    plus-nothing x = omega arith
+tally-split a (suc n) s =
+    let more : suc n + a ≡ suc (n + a) = omega arith in
+    ap (λ m. tally m s) more
+    ∙ ap (λ r. cond (s (n + a)) 1 0 + r) (tally-split a n s)
+    ∙ swap (cond (s (n + a)) 1 0) (tally a s) (tally n (λ k. s (k + a)))
+  where
+    swap : (x y z : ℕ) → x + (y + z) ≡ y + (x + z)
+    swap x y z = omega arith
+
+-- the ones of a number of d bits
+ones-tally : (d n : ℕ) → n < 2 ^ d → ones n ≡ tally d (bit n)
+unfolding ones
+ones-tally zero n h = let z : n ≡ 0 = omega arith in ap ones z
+ones-tally (suc d) n h =
+    let more : suc d ≡ d + 1 = omega arith in
+    let low : n / 2 ^ 0 % 2 ≡ n % 2 = omega arith in
+    let half : n / 2 < 2 ^ d = shr-below n d 1 (ap-lt more) in
+    ones-step n
+    ∙ sym
+    (ap (λ m. tally m (bit n)) more
+    ∙ tally-split 1 d (bit n)
+    ∙ ap₂ _+_
+    (ap (λ x. cond (eqb x 1) 1 0 + 0) low ∙ ap (λ x. x + 0) (digit-back (n % 2) (omega arith)) ∙ plus-nothing (n % 2))
+    (tally-same d (λ k. bit n (k + 1)) (bit (n / 2)) (λ k _. ap (λ x. eqb (x % 2) 1) (ap (λ j. n / 2 ^ j) (turn k) ∙ sym (shr-shr n 1 k))) ∙ sym (ones-tally d (n / 2) half)))
+  where
+    plus-nothing : (x : ℕ) → x + 0 ≡ x
+    plus-nothing x = omega arith
+
+    turn : (k : ℕ) → k + 1 ≡ 1 + k
+    turn k = omega arith
+
+    ap-lt : suc d ≡ d + 1 → n < 2 ^ (d + 1)
+    ap-lt e = rw (← e) h
+
+pub byte-weight-is : (b : ℕ) → b < 256 → byte-weight b ≡ ones b
+unfolding byte-weight
+byte-weight-is b h = sym (ones-tally 8 b h)
+
+pub weight-tally : (p : List ℕ) → weight p ≡ tally (length p * 8) (member p)
+unfolding byte-weight member
+weight-tally [] = refl
+weight-tally (b ∷ bs) =
+    let more : suc (length bs) * 8 ≡ length bs * 8 + 8 = omega arith in
+    sym
+    (ap (λ n. tally n (member (b ∷ bs))) more
+    ∙ tally-split 8 (length bs * 8) (member (b ∷ bs))
+    ∙ ap₂ _+_
+    (tally-same 8 (member (b ∷ bs)) (bit b) (λ k h.
+    let q : k / 8 ≡ 0 = omega arith in
+    let r : k % 8 ≡ k = omega arith in
+    ap₂ (λ x y. bit (getD (b ∷ bs) x 0) y) q r))
+    (tally-same (length bs * 8) (λ k. member (b ∷ bs) (k + 8)) (member bs) (λ k h.
+    let q : (k + 8) / 8 ≡ suc (k / 8) = omega arith in
+    let r : (k + 8) % 8 ≡ k % 8 = omega arith in
+    ap₂ (λ x y. bit (getD (b ∷ bs) x 0) y) q r) ∙ sym (weight-tally bs)))
+
+-- the weight of a pattern of c items is the number of its members
+pub weight-well : (c : ℕ) (p : List ℕ) → Well c p → weight p ≡ tally c (member p)
+weight-well c p w =
+    let long = eqb-true (length p) (width c) (w .long) in
+    let room : length p * 8 ≡ (length p * 8 - c) + c = omega arith in
+    weight-tally p
+    ∙ ap (λ n. tally n (member p)) room
+    ∙ tally-split c (length p * 8 - c) (member p)
+    ∙ ap (λ x. tally c (member p) + x)
+    (tally-none (length p * 8 - c) (λ k. member p (k + c)) (λ k _. ⊎-elim (λ on. let z : k + c < c = member-below c p w (k + c) on in absurd (omega arith)) (λ off. off) (cases-bool (member p (k + c)))))
+    ∙ plus-nothing (tally c (member p))
+  where
+    plus-nothing : (x : ℕ) → x + 0 ≡ x
+    plus-nothing x = omega arith

@@ -1,0 +1,3 @@
+pub mod Sets
+pub mod Patterns
+pub mod Hex
