@@ -3,11 +3,10 @@ use mathlib.Core.Path.{_≡_, refl, sym, ap, ap₂, _∙_, subst}
 use mathlib.Core.List.{List, [], _∷_, _++_}
 use mathlib.Core.Bool.{Bool, true, false, cond, _&&_, _||_, and-true, and-false, or-false, or-assoc}
 use mathlib.Core.Logic.{_⊎_, inl, inr, ⊎-elim}
-use Prim.Native.Nat.{ℕ, zero, suc, _+_, _<_, _≤_}
+use Prim.Native.Nat.{ℕ, zero, suc, _+_, _<_}
 use native.Mathlib.Omega.{arith}
 use lib.Dec.{eqb, ltb}
-use lib.ListN.{length}
-use Rattle.std.proofs.shelf.Lists.{length-append, append-nil}
+use Rattle.std.proofs.shelf.Lists.{append-nil}
 use Rattle.std.proofs.shelf.Tests.{cases-bool, cases-eq, cases-lt, eq-eqb, ne-eqb, eqb-true, eqb-false, lt-ltb, le-ltb, or-left, or-right, or-parts, both-ways, and-parts, and-from}
 use Rattle.patterns.specs.Sets.{Set, _⊕_, has, parity, Apart, members, all-below}
 use Rattle.patterns.proofs.Sums.{plus-zero, plus-cross}
@@ -69,8 +68,8 @@ parity-swap (x ∷ xs) ys h k =
 -- ---- the members below n, as a list
 
 -- one turn of a loop that gathers them
-pub members-more : (n : ℕ) (s : Set) → members (n + 1) s ≡ members n s ++ cond (s n) (n ∷ []) []
-members-more n s = let e : n + 1 ≡ suc n = omega arith in ap (λ m. members m s) e
+pub members-more : (n : ℕ) (s : Set) (b : Bool) → s n ≡ b → members (n + 1) s ≡ members n s ++ cond b (n ∷ []) []
+members-more n s b e = let m : n + 1 ≡ suc n = omega arith in ap (λ k. members k s) m ∙ ap (λ x. members n s ++ cond x (n ∷ []) []) e
 
 has-last : (b : Bool) (n k : ℕ) → has (cond b (n ∷ []) []) k ≡ (eqb n k && b)
 has-last true n k = or-false (eqb n k) ∙ sym (and-true (eqb n k))
@@ -116,14 +115,6 @@ members-apart (suc n) s = go (s n) (members-apart n s)
 pub members-same : (n : ℕ) (s t : Set) → ((k : ℕ) → k < n → s k ≡ t k) → members n s ≡ members n t
 members-same zero s t h = refl
 members-same (suc n) s t h = ap₂ (λ xs b. xs ++ cond b (n ∷ []) []) (members-same n s t (λ k l. h k (omega arith))) (h n (omega arith))
-
-pub members-le : (n : ℕ) (s : Set) → length (members n s) ≤ n
-members-le zero s = omega arith
-members-le (suc n) s = let e = length-append (members n s) (cond (s n) (n ∷ []) []) in omega (arith, e, members-le n s, last-le (s n) n)
-  where
-    last-le : (b : Bool) (n : ℕ) → length (cond b (n ∷ []) []) ≤ 1
-    last-le true n = omega arith
-    last-le false n = omega arith
 
 -- ---- tests of all numbers below n
 

@@ -1,6 +1,6 @@
 -- The weight of a pattern counts its set. Assumes nothing.
 use mathlib.Core.Path.{_≡_, refl, sym, ap, ap₂, _∙_}
-use mathlib.Core.List.{List, [], _∷_}
+use mathlib.Core.List.{List, [], _∷_, _++_}
 use mathlib.Core.Bool.{Bool, true, false, cond, _&&_}
 use mathlib.Core.Logic.{⊎-elim}
 use Prim.Native.Nat.{ℕ, zero, suc, _+_, _-_, _*_, _/_, _%_, _^_, _<_, _≤_}
@@ -10,8 +10,9 @@ use lib.Dec.{eqb}
 use lib.ListN.{length, getD}
 use lib.Pow.{shr-shr, pow-add}
 use Rattle.std.proofs.shelf.Bits.{shr-below}
+use Rattle.std.proofs.shelf.Lists.{length-append}
 use Rattle.std.proofs.shelf.Tests.{cases-bool, eqb-true}
-use Rattle.patterns.specs.Sets.{Set, tally}
+use Rattle.patterns.specs.Sets.{Set, tally, members}
 use Rattle.patterns.specs.Patterns.{bit, member, byte-weight, weight, width, Well}
 use Rattle.patterns.proofs.Values.{digit-back}
 use Rattle.patterns.proofs.Packed.{member-below}
@@ -23,6 +24,18 @@ tally-same (suc n) s t h = ap₂ (λ b r. cond b 1 0 + r) (h n (omega arith)) (t
 pub tally-none : (n : ℕ) (s : Set) → ((k : ℕ) → k < n → s k ≡ false) → tally n s ≡ 0
 tally-none zero s h = refl
 tally-none (suc n) s h = ap₂ (λ b r. cond b 1 0 + r) (h n (omega arith)) (tally-none n s (λ k l. h k (omega arith)))
+
+-- one turn of a loop that counts
+pub tally-more : (n : ℕ) (s : Set) (b : Bool) → s n ≡ b → tally (n + 1) s ≡ cond b 1 0 + tally n s
+tally-more n s b e = let m : n + 1 ≡ suc n = omega arith in ap (λ k. tally k s) m ∙ ap (λ x. cond x 1 0 + tally n s) e
+
+pub length-members : (n : ℕ) (s : Set) → length (members n s) ≡ tally n s
+length-members zero s = refl
+length-members (suc n) s = omega (arith, length-append (members n s) (cond (s n) (n ∷ []) []), length-members n s, last (s n))
+  where
+    last : (b : Bool) → length (cond b (n ∷ []) []) ≡ cond b 1 0
+    last true = refl
+    last false = refl
 
 -- the first a, and the rest
 pub tally-split : (a n : ℕ) (s : Set) → tally (n + a) s ≡ tally a s + tally n (λ k. s (k + a))

@@ -5,7 +5,7 @@ use Prim.Native.Nat.{ℕ}
 use Rattle.std.specs.declared.option.Option.{Option}
 use Rattle.std.specs.declared.option.Option.the-variants.{Some, None}
 use Rattle.refusals.specs.declared.Refusal.{Refusal}
-use Rattle.refusals.specs.declared.Refusal.the-variants.{HeadCutShort, WrongMark, WrongVersion, CountOutOfRange, WrongLength, UnusedBitSet, TooManyNeighbours, ShiftsNotRising, OddOverlap, UnknownSide, WrongPatternLength, NumberOutOfRange, NotDangling, NotInGenerator, NotAllOpen, NoSetLowers, OutputTooShort, OutOfMemory}
+use Rattle.refusals.specs.declared.Refusal.the-variants.{HeadCutShort, WrongMark, WrongVersion, CountOutOfRange, WrongLength, UnusedBitSet, DegreeOutOfRange, ShiftsNotRising, OddOverlap, UnknownSide, WrongPatternLength, NumberOutOfRange, NotDangling, NotInGenerator, NotAllOpen, NoSetLowers, OutputTooShort, OutOfMemory}
 
 -- the number of each question, which a report prints when the reply is no; want of memory is no question, and has 0
 abbrev pub number : Refusal → ℕ
@@ -16,7 +16,7 @@ number WrongVersion = 3
 number CountOutOfRange = 4
 number WrongLength = 5
 number UnusedBitSet = 6
-number TooManyNeighbours = 7
+number DegreeOutOfRange = 7
 number ShiftsNotRising = 8
 number OddOverlap = 9
 number UnknownSide = 10

@@ -1,0 +1,53 @@
+-- What a lookup in lists of neighbours answers. Assumes nothing.
+use mathlib.Core.Path.{_≡_, refl, sym, ap, ap₂, _∙_}
+use mathlib.Core.List.{List, [], _∷_, map}
+use mathlib.Core.Bool.{Bool, true, false, cond}
+use Prim.Native.Nat.{ℕ, zero, suc, _<_, _≤_}
+use native.Mathlib.Omega.{arith}
+use denote.Ref.{RefT, now}
+use lib.Dec.{ltb}
+use lib.ListN.{length, getD}
+use Rattle.std.specs.Finite.{nth}
+use Rattle.std.specs.Options.{mapped}
+use Rattle.std.specs.Places.{Item}
+use Rattle.std.specs.Of.Vec.{vec-items, vec-len}
+use Rattle.std.specs.declared.vec.Vec.{Vec}
+use Rattle.std.specs.declared.alloc.Global.{Global}
+use Rattle.std.specs.declared.option.Option.{Option}
+use Rattle.std.specs.declared.option.Option.the-variants.{Some, None}
+use Rattle.std.proofs.shelf.Lists.{length-map, getD-map}
+use Rattle.std.proofs.shelf.Maps.{nth-getD, nth-past}
+use Rattle.std.proofs.shelf.Tests.{lt-ltb, le-ltb, cond-true, cond-false}
+use Rattle.matrices.specs.Relations.{size-at, neighbour, listed}
+
+-- what `get` answers
+pub got : {X : Type 0} (xs : List X) (i : ℕ) (r : Option (RefT X)) → Item xs i i r → mapped now r ≡ nth xs i
+got xs i None it = sym (nth-past xs i (it .3))
+got xs i (Some x) it = sym (nth-getD xs i (x .now) (it .3 .0) ∙ ap Some (sym (it .3 .1 (x .now))))
+
+module _ (nodes : List (Vec ℕ Global)) (u : ℕ) where
+  pub size-past : length nodes ≤ u → None ≡ size-at (length (map vec-items nodes)) (listed (map vec-items nodes)) u
+  size-past h =
+      sym (cond-false (ltb u (length (map vec-items nodes))) (Some (length (listed (map vec-items nodes) u))) None
+      (le-ltb u (length (map vec-items nodes)) (omega (arith, length-map nodes (vec-items {X = ℕ} {Z = Global})))))
+
+  pub neighbour-past : (k : ℕ) → length nodes ≤ u → None ≡ neighbour (length (map vec-items nodes)) (listed (map vec-items nodes)) u k
+  neighbour-past k h =
+      sym (cond-false (ltb u (length (map vec-items nodes))) (nth (listed (map vec-items nodes) u) k) None
+      (le-ltb u (length (map vec-items nodes)) (omega (arith, length-map nodes (vec-items {X = ℕ} {Z = Global})))))
+
+  module _ (x : Vec ℕ Global) (here : u < length nodes) (is : x ≡ getD nodes u x) where
+    there : ltb u (length (map vec-items nodes)) ≡ true
+    there = lt-ltb u (length (map vec-items nodes)) (omega (arith, length-map nodes (vec-items {X = ℕ} {Z = Global})))
+
+    list-is : vec-items x ≡ listed (map vec-items nodes) u
+    list-is = ap vec-items is ∙ sym (getD-map vec-items nodes u x [] here)
+
+    pub size-here : Some (vec-len x) ≡ size-at (length (map vec-items nodes)) (listed (map vec-items nodes)) u
+    size-here =
+        ap Some (x .ok .0 ∙ ap length list-is)
+        ∙ sym (cond-true (ltb u (length (map vec-items nodes))) (Some (length (listed (map vec-items nodes) u))) None there)
+
+    pub neighbour-here : (k : ℕ) → nth (vec-items x) k ≡ neighbour (length (map vec-items nodes)) (listed (map vec-items nodes)) u k
+    neighbour-here k =
+        ap (λ l. nth l k) list-is ∙ sym (cond-true (ltb u (length (map vec-items nodes))) (nth (listed (map vec-items nodes) u) k) None there)

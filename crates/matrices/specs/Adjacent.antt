@@ -1,0 +1,9 @@
+-- What lists of neighbours hold. Assumes nothing.
+use mathlib.Core.List.{List, map}
+use Prim.Native.Nat.{ℕ}
+use Rattle.std.specs.Of.Vec.{vec-items}
+use Rattle.std.specs.declared.vec.Vec.{Vec}
+use Rattle.std.specs.declared.alloc.Global.{Global}
+
+abbrev pub lists : Vec (Vec ℕ Global) Global → List (List ℕ)
+lists v = map vec-items (vec-items v)
