@@ -5,7 +5,7 @@ use mathlib.Core.Bool.{Bool, true, false, cond}
 use Prim.Native.Nat.{ℕ, zero, suc, _<_, _≤_}
 use native.Mathlib.Omega.{arith}
 use denote.Ref.{RefT, now}
-use lib.Dec.{ltb}
+use lib.Dec.{eqb, ltb}
 use lib.ListN.{length, getD}
 use Rattle.std.specs.Finite.{nth}
 use Rattle.std.specs.Options.{mapped}
@@ -17,13 +17,25 @@ use Rattle.std.specs.declared.option.Option.{Option}
 use Rattle.std.specs.declared.option.Option.the-variants.{Some, None}
 use Rattle.std.proofs.shelf.Lists.{length-map, getD-map}
 use Rattle.std.proofs.shelf.Maps.{nth-getD, nth-past}
-use Rattle.std.proofs.shelf.Tests.{lt-ltb, le-ltb, cond-true, cond-false}
+use Rattle.std.proofs.shelf.Tests.{lt-ltb, le-ltb, cond-true, cond-false, eq-eqb, or-left, or-right}
+use Rattle.patterns.specs.Sets.{has}
 use Rattle.matrices.specs.Relations.{size-at, neighbour, listed}
 
 -- what `get` answers
 pub got : {X : Type 0} (xs : List X) (i : ℕ) (r : Option (RefT X)) → Item xs i i r → mapped now r ≡ nth xs i
 got xs i None it = sym (nth-past xs i (it .3))
 got xs i (Some x) it = sym (nth-getD xs i (x .now) (it .3 .0) ∙ ap Some (sym (it .3 .1 (x .now))))
+
+-- what stands in a list is one of its numbers
+pub nth-has : (xs : List ℕ) (k x : ℕ) → Some x ≡ nth xs k → has xs x ≡ true
+nth-has [] k x e = let z : _≡_ {A = ℕ} 0 1 = cc in absurd (omega arith)
+nth-has (y ∷ ys) zero x e = let same : x ≡ y = cc in or-left (eqb y x) (has ys x) (eq-eqb y x (sym same))
+nth-has (y ∷ ys) (suc k) x e = or-right (eqb y x) (has ys x) (nth-has ys k x e)
+
+pub nth-map : (f : ℕ → ℕ) (xs : List ℕ) (k : ℕ) → nth (map f xs) k ≡ mapped f (nth xs k)
+nth-map f [] k = refl
+nth-map f (x ∷ xs) zero = refl
+nth-map f (x ∷ xs) (suc k) = nth-map f xs k
 
 module _ (nodes : List (Vec ℕ Global)) (u : ℕ) where
   pub size-past : length nodes ≤ u → None ≡ size-at (length (map vec-items nodes)) (listed (map vec-items nodes)) u

@@ -1,13 +1,13 @@
 -- Lists as sets, and sets as lists. Assumes nothing.
 use mathlib.Core.Path.{_≡_, refl, sym, ap, ap₂, _∙_, subst}
-use mathlib.Core.List.{List, [], _∷_, _++_}
+use mathlib.Core.List.{List, [], _∷_, _++_, map}
 use mathlib.Core.Bool.{Bool, true, false, cond, _&&_, _||_, and-true, and-false, or-false, or-assoc}
 use mathlib.Core.Logic.{_⊎_, inl, inr, ⊎-elim}
 use Prim.Native.Nat.{ℕ, zero, suc, _+_, _<_}
 use native.Mathlib.Omega.{arith}
 use lib.Dec.{eqb, ltb}
 use Rattle.std.proofs.shelf.Lists.{append-nil}
-use Rattle.std.proofs.shelf.Tests.{cases-bool, cases-eq, cases-lt, eq-eqb, ne-eqb, eqb-true, eqb-false, lt-ltb, le-ltb, or-left, or-right, or-parts, both-ways, and-parts, and-from}
+use Rattle.std.proofs.shelf.Tests.{cases-bool, cases-eq, cases-lt, eq-eqb, ne-eqb, eqb-true, eqb-false, lt-ltb, le-ltb, or-left, or-right, or-parts, or-cases, both-ways, and-parts, and-from}
 use Rattle.patterns.specs.Sets.{Set, _⊕_, has, parity, Apart, members, all-below}
 use Rattle.patterns.proofs.Sums.{plus-zero, plus-cross}
 
@@ -32,6 +32,46 @@ has-more x xs k fresh =
     (λ e. subst P (sym e) (sym (ap (λ b. true ⊕ b) (ap (has xs) (sym (eqb-true x k e)) ∙ fresh))))
     (λ e. subst P (sym e) refl)
     (cases-bool (eqb x k))
+
+-- ---- lists whose numbers are mapped
+
+-- what a mapped list has comes from a number of the list
+pub has-map-from : (f : ℕ → ℕ) (xs : List ℕ) (k : ℕ) → has (map f xs) k ≡ true → (x : ℕ) × (has xs x ≡ true) × (f x ≡ k)
+has-map-from f [] k h = absurd (both-ways false refl h)
+has-map-from f (x ∷ xs) k h =
+    ⊎-elim
+    (λ e. (x, has-here x xs, eqb-true (f x) k e))
+    (λ e. let r = has-map-from f xs k e in (r .0, or-right (eqb x (r .0)) (has xs (r .0)) (r .1), r .2))
+    (or-cases (eqb (f x) k) (has (map f xs) k) h)
+
+pub has-map : (f : ℕ → ℕ) (xs : List ℕ) (x : ℕ) → has xs x ≡ true → has (map f xs) (f x) ≡ true
+has-map f [] x h = h
+has-map f (y ∷ ys) x h =
+    ⊎-elim
+    (λ e. or-left (eqb (f y) (f x)) (has (map f ys) (f x)) (eq-eqb (f y) (f x) (ap f (eqb-true y x e))))
+    (λ e. or-right (eqb (f y) (f x)) (has (map f ys) (f x)) (has-map f ys x e))
+    (or-cases (eqb y x) (has ys x) h)
+
+-- two mapped lists, item by item
+pub has-map-same : (f g : ℕ → ℕ) (xs : List ℕ) (j k : ℕ) → ((x : ℕ) → has xs x ≡ true → eqb (f x) j ≡ eqb (g x) k) → has (map f xs) j ≡ has (map g xs) k
+has-map-same f g [] j k h = refl
+has-map-same f g (x ∷ xs) j k h =
+    ap₂ _||_ (h x (has-here x xs)) (has-map-same f g xs j k (λ y e. h y (or-right (eqb x y) (has xs y) e)))
+
+-- a map that keeps the list's numbers apart
+pub apart-map : (f : ℕ → ℕ) (xs : List ℕ) → ((x y : ℕ) → has xs x ≡ true → has xs y ≡ true → f x ≡ f y → x ≡ y) → Apart xs → Apart (map f xs)
+apart-map f [] keeps a = tt
+apart-map f (x ∷ xs) keeps a = (
+  not-true-is-false (has (map f xs) (f x))
+      (λ e.
+      let r = has-map-from f xs (f x) e in
+      let same : x ≡ r .0 = keeps x (r .0) (has-here x xs) (or-right (eqb x (r .0)) (has xs (r .0)) (r .1)) (sym (r .2)) in
+      both-ways (has xs x) (a .0) (ap (has xs) same ∙ r .1)),
+  apart-map f xs (λ y z hy hz. keeps y z (or-right (eqb x y) (has xs y) hy) (or-right (eqb x z) (has xs z) hz)) (a .1),
+)
+  where
+    not-true-is-false : (b : Bool) → (b ≡ true → ⊥) → b ≡ false
+    not-true-is-false b h = ⊎-elim (λ e. absurd (h e)) (λ e. e) (cases-bool b)
 
 -- ---- parities
 

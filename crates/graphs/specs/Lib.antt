@@ -1,0 +1,3 @@
+pub mod Tanners
+pub mod Turning
+pub mod Cycles
