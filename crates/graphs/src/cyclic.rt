@@ -14,13 +14,11 @@ ghost use Rattle.graphs.specs.Cycles.{rising, shift-count, cyclic-refusal, cyc
 use crate::graph::CheckNode;
 use crate::graph::Graph;
 use crate::graph::VariableNode;
+use crate::limits::MOST_NEIGHBOURS;
+use crate::limits::in_range;
 use refusals::Refusal;
 use refusals::RefusalFromAlloc;
 use std::alloc::Global;
-
-const MOST_NODES: u32 = 96;
-
-const MOST_SHIFTS: usize = 6;
 
 #[derive(Drop)]
 pub struct Cyclic {
@@ -51,10 +49,10 @@ impl Cyclic {
             (λ g. (cyclic-refusal count (now (shifts .entry)) ≡ None) × (g .count ≡ count) × (vec-items (g .shifts) ≡ now (shifts .entry)))
             (λ e. e ≡ valueOr (cyclic-refusal count (now (shifts .entry))) OutOfMemory) ⌝ }
     {
-        if count < 1 || count > MOST_NODES {
+        if !in_range(count) {
             return Err(Refusal::CountOutOfRange);
         }
-        if shifts.len() < 1 || shifts.len() > MOST_SHIFTS {
+        if shifts.is_empty() || shifts.len() > MOST_NEIGHBOURS as usize {
             return Err(Refusal::DegreeOutOfRange);
         }
         if !rises(shifts, count) {

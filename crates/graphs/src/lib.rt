@@ -1,4 +1,5 @@
-// Tanner graphs: what every graph tells, cyclic graphs, and graphs turned round.
+// Tanner graphs: what every graph tells, how large one may be, cyclic graphs, and graphs turned round.
 pub mod cyclic;
 pub mod graph;
+pub mod limits;
 pub mod turned;

@@ -2,16 +2,20 @@
 use mathlib.Core.Path.{_≡_, refl, sym, ap, ap₂, _∙_, subst}
 use mathlib.Core.List.{List, [], _∷_, map}
 use mathlib.Core.Bool.{Bool, true, false, _&&_}
+use mathlib.Core.Logic.{⊎-elim}
 use Prim.Native.Nat.{ℕ, zero, suc, _+_, _<_, _≤_}
 use native.Mathlib.Omega.{arith}
 use lib.Dec.{ltb, leb}
 use lib.ListN.{length, getD}
 use Rattle.std.specs.Iters.{counting}
+use Rattle.std.specs.declared.option.Option.the-variants.{Some, None}
 use Rattle.std.proofs.shelf.Counted.{length-map-counting, getD-map-counting}
-use Rattle.std.proofs.shelf.Tests.{lt-ltb, leb-true}
-use Rattle.patterns.specs.Sets.{Set, has, Apart, members}
-use Rattle.patterns.proofs.Lists.{has-members, members-within, members-apart, members-same, all-below-at}
-use Rattle.matrices.specs.Relations.{Paired, listed, tabled, transposed, short}
+use Rattle.std.proofs.shelf.Tests.{lt-ltb, leb-true, ltb-true, cond-true, cond-false, cases-bool}
+use Rattle.patterns.specs.Sets.{Set, has, Apart, members, tally}
+use Rattle.patterns.proofs.Lists.{has-members, members-within, members-apart, members-same, all-below-at, all-below-from}
+use Rattle.patterns.proofs.Weighed.{length-members}
+use Rattle.matrices.specs.Relations.{Paired, size-at, listed, tabled, transposed, short}
+use Rattle.matrices.specs.Rows.{few}
 
 pub map-counting-same : {X : Type 0} (f g : ℕ → X) (a n : ℕ) → ((k : ℕ) → k < a + n → f k ≡ g k) → map f (counting a n) ≡ map g (counting a n)
 map-counting-same f g a zero h = refl
@@ -26,6 +30,13 @@ length-tabled m n s = length-map-counting (λ u. members n (s u)) 0 m
 
 pub listed-tabled : (m n : ℕ) (s : ℕ → Set) (u : ℕ) → u < m → listed (tabled m n s) u ≡ members n (s u)
 listed-tabled m n s u h = getD-map-counting (λ u. members n (s u)) 0 m u u [] h (omega arith)
+
+pub short-tabled : (most m n : ℕ) (s : ℕ → Set) → few most m n s ≡ true → short most (tabled m n s) ≡ true
+short-tabled most m n s h =
+    all-below-from (length (tabled m n s)) (λ u. leb (length (listed (tabled m n s) u)) most)
+    (λ u l.
+    let l′ : u < m = omega (arith, length-tabled m n s) in
+    ap (λ k. leb k most) (ap length (listed-tabled m n s u l′) ∙ length-members n (s u)) ∙ all-below-at m (λ u. leb (tally n (s u)) most) h u l′)
 
 -- the columns of a table tell its rows
 pub transposed-tabled : (m n : ℕ) (s : ℕ → Set) → transposed m (tabled n m (λ v u. s u v)) ≡ tabled m n s
@@ -71,3 +82,17 @@ paired-listed most rows columns by-row by-column few-rows few-columns = record {
   row-few = λ u h. leb-true (length (listed rows u)) most (all-below-at (length rows) (λ u. leb (length (listed rows u)) most) few-rows u h);
   column-few = λ v h. leb-true (length (listed columns v)) most (all-below-at (length columns) (λ v. leb (length (listed columns v)) most) few-columns v h);
 }
+
+-- a size that was told is that of a row
+pub size-told : (m : ℕ) (of-row : ℕ → List ℕ) (u size : ℕ) → Some size ≡ size-at m of-row u → (u < m) × (size ≡ length (of-row u))
+size-told m of-row u size e =
+    ⊎-elim
+    (λ in′. let some : Some size ≡ Some (length (of-row u)) = e ∙ cond-true (ltb u m) (Some (length (of-row u))) None in′ in (ltb-true u m in′, cc some))
+    (λ out. let none : Some size ≡ None = e ∙ cond-false (ltb u m) (Some (length (of-row u))) None out in let z : _≡_ {A = ℕ} 0 1 = cc none in absurd (omega arith))
+    (cases-bool (ltb u m))
+
+pub size-short : (most : ℕ) (lists : List (List ℕ)) → short most lists ≡ true → (u size : ℕ) → Some size ≡ size-at (length lists) (listed lists) u → size ≤ most
+size-short most lists h u size e =
+    let told = size-told (length lists) (listed lists) u size e in
+    let few : length (listed lists u) ≤ most = leb-true (length (listed lists u)) most (all-below-at (length lists) (λ u. leb (length (listed lists u)) most) h u (told .0)) in
+    omega (arith, told .1)

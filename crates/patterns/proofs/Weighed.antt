@@ -1,7 +1,7 @@
 -- The weight of a pattern counts its set. Assumes nothing.
 use mathlib.Core.Path.{_≡_, refl, sym, ap, ap₂, _∙_}
 use mathlib.Core.List.{List, [], _∷_, _++_}
-use mathlib.Core.Bool.{Bool, true, false, cond, _&&_}
+use mathlib.Core.Bool.{Bool, true, false, cond, _||_}
 use mathlib.Core.Logic.{⊎-elim}
 use Prim.Native.Nat.{ℕ, zero, suc, _+_, _-_, _*_, _/_, _%_, _^_, _<_, _≤_}
 use native.Mathlib.Omega.{arith}
@@ -11,8 +11,8 @@ use lib.ListN.{length, getD}
 use lib.Pow.{shr-shr, pow-add}
 use Rattle.std.proofs.shelf.Bits.{shr-below}
 use Rattle.std.proofs.shelf.Lists.{length-append}
-use Rattle.std.proofs.shelf.Tests.{cases-bool, eqb-true}
-use Rattle.patterns.specs.Sets.{Set, tally, members}
+use Rattle.std.proofs.shelf.Tests.{cases-bool, cases-eq, eqb-true, eq-eqb, ne-eqb}
+use Rattle.patterns.specs.Sets.{Set, tally, members, has}
 use Rattle.patterns.specs.Patterns.{bit, member, byte-weight, weight, width, Well}
 use Rattle.patterns.proofs.Values.{digit-back}
 use Rattle.patterns.proofs.Packed.{member-below}
@@ -113,3 +113,31 @@ weight-well c p w =
   where
     plus-nothing : (x : ℕ) → x + 0 ≡ x
     plus-nothing x = omega arith
+
+-- ---- at most as many as a list has
+
+or-digits : (a b : Bool) → cond (a || b) 1 0 ≤ cond a 1 0 + cond b 1 0
+or-digits true b = omega arith
+or-digits false b = omega arith
+
+tally-or : (n : ℕ) (s t : Set) → tally n (λ k. s k || t k) ≤ tally n s + tally n t
+tally-or zero s t = omega arith
+tally-or (suc n) s t = omega (arith, tally-or n s t, or-digits (s n) (t n))
+
+tally-one : (n x : ℕ) → (tally n (eqb x) ≤ 1) × (n ≤ x → tally n (eqb x) ≡ 0)
+tally-one zero x = (omega arith, λ _. refl)
+tally-one (suc n) x =
+    let known = tally-one n x in
+    ⊎-elim
+    (λ same.
+    let none : tally n (eqb x) ≡ 0 = known .1 (omega arith) in
+    let here : _≡_ {A = ℕ} (cond (eqb x n) 1 0) 1 = ap (λ b. cond b 1 0) (eq-eqb x n same) in
+    (omega (arith, here), λ h. absurd (omega arith)))
+    (λ other.
+    let here : _≡_ {A = ℕ} (cond (eqb x n) 1 0) 0 = ap (λ b. cond b 1 0) (ne-eqb x n other) in
+    (omega (arith, here, known .0), λ h. let none : tally n (eqb x) ≡ 0 = known .1 (omega arith) in omega (arith, here)))
+    (cases-eq x n)
+
+pub tally-has : (n : ℕ) (xs : List ℕ) → tally n (has xs) ≤ length xs
+tally-has n [] = let z : tally n (has []) ≡ 0 = tally-none n (has []) (λ _ _. refl) in omega arith
+tally-has n (x ∷ xs) = omega (arith, tally-or n (eqb x) (has xs), tally-one n x .0, tally-has n xs)

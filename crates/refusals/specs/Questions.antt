@@ -4,6 +4,8 @@ use mathlib.Core.List.{List, [], _∷_}
 use Prim.Native.Nat.{ℕ}
 use Rattle.std.specs.declared.option.Option.{Option}
 use Rattle.std.specs.declared.option.Option.the-variants.{Some, None}
+use Rattle.std.specs.declared.result.Result.{Result}
+use Rattle.std.specs.declared.result.Result.the-variants.{Ok, Err}
 use Rattle.refusals.specs.declared.Refusal.{Refusal}
 use Rattle.refusals.specs.declared.Refusal.the-variants.{HeadCutShort, WrongMark, WrongVersion, CountOutOfRange, WrongLength, UnusedBitSet, DegreeOutOfRange, ShiftsNotRising, OddOverlap, UnknownSide, WrongPatternLength, NumberOutOfRange, NotDangling, NotInGenerator, NotAllOpen, NoSetLowers, OutputTooShort, OutOfMemory}
 
@@ -36,3 +38,8 @@ Question = Bool × Refusal
 abbrev pub first-no : List Question → Option Refusal
 first-no [] = None
 first-no (q ∷ qs) = cond (q .0) (first-no qs) (Some (q .1))
+
+-- what a call answers that asks questions and tells nothing else
+abbrev pub answer : Option Refusal → Result (Unit {0}) Refusal
+answer None = Ok tt
+answer (Some e) = Err e
