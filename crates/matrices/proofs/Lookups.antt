@@ -37,6 +37,38 @@ nth-map f [] k = refl
 nth-map f (x ∷ xs) zero = refl
 nth-map f (x ∷ xs) (suc k) = nth-map f xs k
 
+-- ---- a scan over the neighbours of a node
+
+-- neighbour v was told at place k
+pub record Found (row : List ℕ) (k v : ℕ) : Type 0 where
+  pub here : k < length row
+  pub is : getD row k 0 ≡ v
+  pub among : has row v ≡ true
+
+nth-found : (xs : List ℕ) (k v : ℕ) → Some v ≡ nth xs k → (k < length xs) × (getD xs k 0 ≡ v)
+nth-found [] k v e = let z : _≡_ {A = ℕ} 0 1 = cc in absurd (omega arith)
+nth-found (x ∷ xs) zero v e = let same : x ≡ v = cc in (omega arith, same)
+nth-found (x ∷ xs) (suc k) v e = let rest = nth-found xs k v e in (omega (arith, rest .0), rest .1)
+
+nth-ended : (xs : List ℕ) (k : ℕ) → None ≡ nth xs k → length xs ≤ k
+nth-ended [] k e = omega arith
+nth-ended (x ∷ xs) zero e = let z : _≡_ {A = ℕ} 0 1 = cc in absurd (omega arith)
+nth-ended (x ∷ xs) (suc k) e = omega (arith, nth-ended xs k e)
+
+module _ (m : ℕ) (of-row : ℕ → List ℕ) (u k : ℕ) (within : u < m) where
+  at-row : neighbour m of-row u k ≡ nth (of-row u) k
+  at-row = cond-true (ltb u m) (nth (of-row u) k) None (lt-ltb u m within)
+
+  pub found-at : (v : ℕ) → Some v ≡ neighbour m of-row u k → Found (of-row u) k v
+  found-at v e =
+      let at = nth-found (of-row u) k v (e ∙ at-row) in
+      record { here = at .0; is = at .1; among = nth-has (of-row u) k v (e ∙ at-row) }
+
+  pub ended-at : None ≡ neighbour m of-row u k → length (of-row u) ≤ k
+  ended-at e = nth-ended (of-row u) k (e ∙ at-row)
+
+-- ---- lists in vectors
+
 module _ (nodes : List (Vec ℕ Global)) (u : ℕ) where
   pub size-past : length nodes ≤ u → None ≡ size-at (length (map vec-items nodes)) (listed (map vec-items nodes)) u
   size-past h =
