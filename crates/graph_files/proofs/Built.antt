@@ -15,13 +15,13 @@ pub in-range : (n : ℕ) → counted n ≡ true → (1 ≤ n) × (n ≤ most-nod
 in-range n h = let both = and-parts (leb 1 n) (leb n most-nodes) h in (leb-true 1 n (both .0), leb-true n most-nodes (both .1))
 
 pub wired-listed : (checks variables : List (List ℕ))
-  → checks ≡ transposed (length checks) variables
-  → variables ≡ transposed (length variables) checks
-  → counted (length checks) ≡ true
-  → counted (length variables) ≡ true
-  → short most-neighbours checks ≡ true
-  → short most-neighbours variables ≡ true
-  → Wired (listed-graph checks variables)
+    → checks ≡ transposed (length checks) variables
+    → variables ≡ transposed (length variables) checks
+    → counted (length checks) ≡ true
+    → counted (length variables) ≡ true
+    → short most-neighbours checks ≡ true
+    → short most-neighbours variables ≡ true
+    → Wired (listed-graph checks variables)
 wired-listed checks variables by-check by-variable m n few-variables few-checks = record {
   some-variables = in-range (length variables) n .0;
   most-variables = in-range (length variables) n .1;

@@ -44,11 +44,11 @@ row-room w p m long h e = omega (arith, mul-le (p + 1) w m w (omega arith) (omeg
 
 -- one row more, which takes the k bytes from its place on
 pub rows-more : (t : Tanner) (p w k : ℕ) (rows row : List ℕ)
-  → w ≡ width (t .variables)
-  → w * p ≤ length rows
-  → row ≡ row-of t p
-  → take (w * p) rows ≡ rows-of t p
-  → take (w * (p + 1)) (putMid (w * p) k rows row) ≡ rows-of t (p + 1)
+    → w ≡ width (t .variables)
+    → w * p ≤ length rows
+    → row ≡ row-of t p
+    → take (w * p) rows ≡ rows-of t p
+    → take (w * (p + 1)) (putMid (w * p) k rows row) ≡ rows-of t (p + 1)
 rows-more t p w k rows row wide room is before =
     let long : length row ≡ w = ap length is ∙ length-pattern (t .variables) (has (t .of-check p)) ∙ sym wide in
     let next : w * (p + 1) ≡ w * p + length row = omega (arith, mul-add w p 1) in

@@ -62,7 +62,11 @@ fn read_head<'a>(file: &'a [u8]) -> Result<Head<'a>, Refusal>
     if !in_range(variables) || !in_range(checks) {
         return Err(Refusal::CountOutOfRange);
     }
-    Ok(Head { variables, checks, rows })
+    Ok(Head {
+        variables,
+        checks,
+        rows,
+    })
 }
 
 // Asks the rows for their length, their unused bits, and the degrees of checks and variables.
@@ -76,7 +80,9 @@ fn ask_rows(checks: u32, matrix: BitRows<'_>) -> Result<(), Refusal>
     if !matrix.unused_are_zero(checks) {
         return Err(Refusal::UnusedBitSet);
     }
-    if !joined_to_few(&matrix, checks, variables, MOST_NEIGHBOURS) || !joined_to_few(&BitColumns { matrix }, variables, checks, MOST_NEIGHBOURS) {
+    if !joined_to_few(&matrix, checks, variables, MOST_NEIGHBOURS)
+        || !joined_to_few(&BitColumns { matrix }, variables, checks, MOST_NEIGHBOURS)
+    {
         return Err(Refusal::DegreeOutOfRange);
     }
     Ok(())
@@ -100,7 +106,10 @@ pub fn read_graph(heap: Global, file: &[u8]) -> Result<Matrix, Refusal>
         (λ e. e ≡ valueOr (graph-refusal (now (file .entry))) OutOfMemory) ⌝ }
 {
     let head = read_head(file)?;
-    let matrix = BitRows { columns: head.variables, bytes: head.rows };
+    let matrix = BitRows {
+        columns: head.variables,
+        bytes: head.rows,
+    };
     ask_rows(head.checks, matrix)?;
     build(heap, head.checks, matrix)
 }

@@ -27,10 +27,10 @@ shift-count shifts = leb 1 (length shifts) && leb (length shifts) most-neighbour
 abbrev pub cyclic-refusal : ℕ → List ℕ → Option Refusal
 cyclic-refusal n shifts =
     first-no (
-      (counted n, CountOutOfRange)
-      ∷ (shift-count shifts, DegreeOutOfRange)
-      ∷ (rising n shifts, ShiftsNotRising)
-      ∷ []
+    (counted n, CountOutOfRange)
+    ∷ (shift-count shifts, DegreeOutOfRange)
+    ∷ (rising n shifts, ShiftsNotRising)
+    ∷ []
     )
 
 -- check p is joined to the variables (p + shift) mod n, so variable v to the checks (v - shift) mod n

@@ -2,10 +2,10 @@
 ghost use mathlib.Core.Path.{_≡_};
 ghost use Rattle.graphs.specs.Tanners.{counted};
 
-// The greatest number of variables, and of checks.
+// The largest number of variables, and of checks.
 pub const MOST_NODES: u32 = 96;
 
-// The greatest degree of a variable or a check.
+// The largest degree of a variable or a check.
 pub const MOST_NEIGHBOURS: u32 = 6;
 
 // Whether there may be so many variables, or so many checks.

@@ -16,9 +16,9 @@ take-least xs w k e =
     (cases-lt w (length xs))
 
 pub cut-within : {X : Type 0} (xs : List X) (start w from to : ℕ)
-  → from ≡ min start (length xs)
-  → to ≡ min (from + w) (length xs)
-  → take (to - from) (drop from xs) ≡ take w (drop start xs)
+    → from ≡ min start (length xs)
+    → to ≡ min (from + w) (length xs)
+    → take (to - from) (drop from xs) ≡ take w (drop start xs)
 cut-within xs start w from to f t =
     ⊎-elim
     (λ l.

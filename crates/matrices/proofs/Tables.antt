@@ -68,11 +68,11 @@ module _ (rows columns : List (List ℕ)) (told : rows ≡ transposed (length ro
   row-within u v h e = members-within (length columns) (λ v. has (listed columns v) u) v (ap (λ l. has l v) (sym (row-is u h)) ∙ e)
 
 pub paired-listed : (most : ℕ) (rows columns : List (List ℕ))
-  → rows ≡ transposed (length rows) columns
-  → columns ≡ transposed (length columns) rows
-  → short most rows ≡ true
-  → short most columns ≡ true
-  → Paired most (length rows) (length columns) (listed rows) (listed columns)
+    → rows ≡ transposed (length rows) columns
+    → columns ≡ transposed (length columns) rows
+    → short most rows ≡ true
+    → short most columns ≡ true
+    → Paired most (length rows) (length columns) (listed rows) (listed columns)
 paired-listed most rows columns by-row by-column few-rows few-columns = record {
   same = row-has rows columns by-row;
   row-apart = row-apart rows columns by-row;

@@ -5,11 +5,11 @@ ghost use mathlib.Core.Bool.{Bool};
 ghost use Prim.Native.Nat.{ℕ};
 ghost use Rattle.patterns.specs.Sets.{Set, tally};
 ghost use Rattle.matrices.specs.Rows.{row, entry, turned-entry, tidy-rows, few};
-use patterns::items::test;
+use patterns::items::contains;
 use patterns::shapes::unused_are_zero;
 use patterns::shapes::width;
 
-// What is joined to what: a relation between numbers, by its test.
+// What is joined to what: a relation between numbers.
 pub trait Incidence {
     ghost joined: { Self → ℕ → Set };
 
@@ -53,7 +53,7 @@ pub impl<'a> Incidence for BitRows<'a> as ByRow {
     ghost joined = { λ m. entry (m .columns) (at (m .bytes)) };
 
     fn joins(&self, a: u32, b: u32) -> bool {
-        test(self.row(a), b)
+        contains(self.row(a), b)
     }
 }
 
@@ -67,7 +67,7 @@ pub impl<'a> Incidence for BitColumns<'a> as ByColumn {
     ghost joined = { λ m. turned-entry (m .matrix .columns) (at (m .matrix .bytes)) };
 
     fn joins(&self, a: u32, b: u32) -> bool {
-        test(self.matrix.row(b), a)
+        contains(self.matrix.row(b), a)
     }
 }
 

@@ -20,23 +20,23 @@ two-more out i h l lt =
     ∙ ap (λ x. x ++ l ∷ []) (take-more-set out (2 * i) h (omega arith))
 
 pub hexed-more : (out bs : List ℕ) (i h l : ℕ)
-  → i < length bs
-  → 2 * i + 1 < length out
-  → h ≡ hex-digit (getD bs i 0 / 16)
-  → l ≡ hex-digit (getD bs i 0 % 16)
-  → take (2 * i) out ++ hexed (drop i bs) ≡ hexed bs
-  → take (2 * (i + 1)) (set (set out (2 * i) h) (2 * i + 1) l) ++ hexed (drop (i + 1) bs) ≡ hexed bs
+    → i < length bs
+    → 2 * i + 1 < length out
+    → h ≡ hex-digit (getD bs i 0 / 16)
+    → l ≡ hex-digit (getD bs i 0 % 16)
+    → take (2 * i) out ++ hexed (drop i bs) ≡ hexed bs
+    → take (2 * (i + 1)) (set (set out (2 * i) h) (2 * i + 1) l) ++ hexed (drop (i + 1) bs) ≡ hexed bs
 hexed-more out bs i h l within room p q e =
     let s = at-drop-more hexed bs i 0 within in
     ap (λ x. x ++ hexed (drop (i + 1) bs)) (two-more out i h l room) ∙ simp append-assoc (cc (s, p, q, e))
 
 -- what the loop leaves: the digits, and the rest as it was
 pub hexed-all : (out old bs : List ℕ) (i : ℕ)
-  → length bs ≤ i
-  → i ≤ length bs
-  → take (2 * i) out ++ hexed (drop i bs) ≡ hexed bs
-  → drop (2 * i) out ≡ drop (2 * i) old
-  → out ≡ hexed bs ++ drop (length (hexed bs)) old
+    → length bs ≤ i
+    → i ≤ length bs
+    → take (2 * i) out ++ hexed (drop i bs) ≡ hexed bs
+    → drop (2 * i) out ≡ drop (2 * i) old
+    → out ≡ hexed bs ++ drop (length (hexed bs)) old
 hexed-all out old bs i past within front rest =
     let same : 2 * i ≡ length (hexed bs) = omega (arith, length-hexed bs) in
     sym (take-append-drop (2 * i) out)

@@ -6,7 +6,7 @@ ghost use lib.ListN.{length};
 ghost use Rattle.patterns.specs.Patterns.{member, toggled, cleared};
 
 // Whether item k is in the pattern.
-pub fn test(bits: &[u8], k: u32) -> bool
+pub fn contains(bits: &[u8], k: u32) -> bool
     ensures { λ r. ⌜ r ≡ member (now (bits .entry)) k ⌝ }
 {
     let byte = (k / 8) as usize;

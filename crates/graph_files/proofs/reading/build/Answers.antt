@@ -18,7 +18,11 @@ ghost-result c =
     let replies = yes-from-none (row-questions m n rows) (c .pre .2) in
     let degrees = and-parts (few most-neighbours m n (entry n rows)) (few most-neighbours n m (turned-entry n rows)) (replies .1 .1 .0) in (
       ap (λ l. counted (length l)) (made .0) ∙ ap counted (length-tabled m n (entry n rows)) ∙ c .pre .0,
-      (ap (λ l. counted (length l)) (made .1) ∙ ap counted (length-tabled n m (turned-entry n rows)) ∙ c .pre .1,
-      (ap (short most-neighbours) (made .0) ∙ short-tabled most-neighbours m n (entry n rows) (degrees .0),
-      (ap (short most-neighbours) (made .1) ∙ short-tabled most-neighbours n m (turned-entry n rows) (degrees .1), tt))),
+      (
+        ap (λ l. counted (length l)) (made .1) ∙ ap counted (length-tabled n m (turned-entry n rows)) ∙ c .pre .1,
+        (
+          ap (short most-neighbours) (made .0) ∙ short-tabled most-neighbours m n (entry n rows) (degrees .0),
+          (ap (short most-neighbours) (made .1) ∙ short-tabled most-neighbours n m (turned-entry n rows) (degrees .1), tt),
+        ),
+      ),
     )

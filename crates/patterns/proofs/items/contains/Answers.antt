@@ -6,7 +6,7 @@ use Rattle.std.proofs.shelf.Tests.{le-ltb}
 use Rattle.patterns.specs.Patterns.{member}
 use Rattle.patterns.proofs.Bits.{and-bit}
 use Rattle.patterns.proofs.Packed.{member-out}
-use Rattle.patterns.proofs.items.test.Needs as need
+use Rattle.patterns.proofs.items.contains.Needs as need
 
 pub returns-then-byte-bits : need.returns-then-byte-bits
 unfolding member
