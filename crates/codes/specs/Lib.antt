@@ -1,0 +1,3 @@
+pub mod Layouts
+pub mod Exchanging
+pub mod Baring
