@@ -6,10 +6,10 @@ use mathlib.Core.Logic.{_⊎_, inl, inr, ⊎-elim}
 use Prim.Native.Nat.{ℕ, zero, suc, _+_, _<_}
 use native.Mathlib.Omega.{arith}
 use lib.Dec.{eqb, ltb}
-use Rattle.std.proofs.shelf.Lists.{append-nil}
-use Rattle.std.proofs.shelf.Tests.{cases-bool, cases-eq, cases-lt, eq-eqb, ne-eqb, eqb-true, eqb-false, lt-ltb, le-ltb, or-left, or-right, or-parts, or-cases, both-ways, and-parts, and-from}
+use Rattle.std.proofs.shelf.Lists.{append-nil, map-id}
+use Rattle.std.proofs.shelf.Tests.{cases-bool, cases-eq, cases-lt, eq-eqb, ne-eqb, eqb-true, eqb-false, lt-ltb, le-ltb, or-left, or-right, or-parts, or-cases, or-from, both-ways, and-parts, and-from}
 use Rattle.patterns.specs.Sets.{Set, _⊕_, has, parity, Apart, members, all-below}
-use Rattle.patterns.proofs.Sums.{plus-zero, plus-cross}
+use Rattle.patterns.proofs.Sums.{plus-assoc, plus-cross}
 
 -- ---- what a list has
 
@@ -44,19 +44,21 @@ has-map-from f (x ∷ xs) k h =
     (λ e. let r = has-map-from f xs k e in (r .0, or-right (eqb x (r .0)) (has xs (r .0)) (r .1), r .2))
     (or-cases (eqb (f x) k) (has (map f xs) k) h)
 
-pub has-map : (f : ℕ → ℕ) (xs : List ℕ) (x : ℕ) → has xs x ≡ true → has (map f xs) (f x) ≡ true
-has-map f [] x h = h
-has-map f (y ∷ ys) x h =
-    ⊎-elim
-    (λ e. or-left (eqb (f y) (f x)) (has (map f ys) (f x)) (eq-eqb (f y) (f x) (ap f (eqb-true y x e))))
-    (λ e. or-right (eqb (f y) (f x)) (has (map f ys) (f x)) (has-map f ys x e))
-    (or-cases (eqb y x) (has ys x) h)
-
 -- two mapped lists, item by item
 pub has-map-same : (f g : ℕ → ℕ) (xs : List ℕ) (j k : ℕ) → ((x : ℕ) → has xs x ≡ true → eqb (f x) j ≡ eqb (g x) k) → has (map f xs) j ≡ has (map g xs) k
 has-map-same f g [] j k h = refl
 has-map-same f g (x ∷ xs) j k h =
     ap₂ _||_ (h x (has-here x xs)) (has-map-same f g xs j k (λ y e. h y (or-right (eqb x y) (has xs y) e)))
+
+-- by a map that takes no two numbers to one
+pub has-map-one : (f : ℕ → ℕ) → ((x y : ℕ) → f x ≡ f y → x ≡ y) → (xs : List ℕ) (k : ℕ) → has (map f xs) (f k) ≡ has xs k
+has-map-one f one xs k =
+    has-map-same f (λ x. x) xs (f k) k
+    (λ x _. ⊎-elim (λ e. e ∙ sym (eq-eqb x k (one x k (eqb-true (f x) (f k) e)))) (λ e. e ∙ sym (ne-eqb x k (λ i. eqb-false (f x) (f k) e (ap f i)))) (cases-bool (eqb (f x) (f k))))
+    ∙ ap (λ l. has l k) (map-id xs)
+
+pub has-map-none : (f : ℕ → ℕ) (xs : List ℕ) (k : ℕ) → ((x : ℕ) → has xs x ≡ true → f x ≡ k → ⊥) → has (map f xs) k ≡ false
+has-map-none f xs k none = ⊎-elim (λ e. let r = has-map-from f xs k e in absurd (none (r .0) (r .1) (r .2))) (λ e. e) (cases-bool (has (map f xs) k))
 
 -- a map that keeps the list's numbers apart
 pub apart-map : (f : ℕ → ℕ) (xs : List ℕ) → ((x y : ℕ) → has xs x ≡ true → has xs y ≡ true → f x ≡ f y → x ≡ y) → Apart xs → Apart (map f xs)
@@ -73,7 +75,22 @@ apart-map f (x ∷ xs) keeps a = (
     not-true-is-false : (b : Bool) → (b ≡ true → ⊥) → b ≡ false
     not-true-is-false b h = ⊎-elim (λ e. absurd (h e)) (λ e. e) (cases-bool b)
 
+pub apart-append : (xs ys : List ℕ) → Apart xs → Apart ys → ((k : ℕ) → has xs k ≡ true → has ys k ≡ false) → Apart (xs ++ ys)
+apart-append [] ys a b off = b
+apart-append (x ∷ xs) ys a b off = (
+  has-append xs ys x ∙ or-from (has xs x) (has ys x) (a .0) (off x (has-here x xs)),
+  apart-append xs ys (a .1) b (λ k h. off k (or-right (eqb x k) (has xs k) h)),
+)
+
 -- ---- parities
+
+pub parity-append : (s : Set) (xs ys : List ℕ) → parity s (xs ++ ys) ≡ (parity s xs ⊕ parity s ys)
+parity-append s [] ys = refl
+parity-append s (x ∷ xs) ys = ap (λ b. s x ⊕ b) (parity-append s xs ys) ∙ sym (plus-assoc (s x) (parity s xs) (parity s ys))
+
+pub parity-map : (s : Set) (f : ℕ → ℕ) (xs : List ℕ) → parity s (map f xs) ≡ parity (λ x. s (f x)) xs
+parity-map s f [] = refl
+parity-map s f (x ∷ xs) = ap (λ b. s (f x) ⊕ b) (parity-map s f xs)
 
 pub parity-add : (s t : Set) (xs : List ℕ) → parity (λ k. s k ⊕ t k) xs ≡ (parity s xs ⊕ parity t xs)
 parity-add s t [] = refl
@@ -135,12 +152,6 @@ pub members-within : (n : ℕ) (s : Set) (k : ℕ) → has (members n s) k ≡ t
 members-within n s k h =
     ⊎-elim (λ l. l) (λ l. absurd (both-ways (ltb k n && s k) (ap (λ b. b && s k) (le-ltb k n l)) (sym (has-members n s k) ∙ h))) (cases-lt k n)
 
-apart-append-last : (xs : List ℕ) (n : ℕ) → Apart xs → has xs n ≡ false → Apart (xs ++ n ∷ [])
-apart-append-last [] n a h = (refl, tt)
-apart-append-last (x ∷ xs) n a h =
-    let off = or-parts (eqb x n) (has xs n) h in
-    (has-append xs (n ∷ []) x ∙ ap₂ _||_ (a .0) (ap (λ b. b || false) (eqb-swap n x ∙ off .0)), apart-append-last xs n (a .1) (off .1))
-
 pub members-apart : (n : ℕ) (s : Set) → Apart (members n s)
 members-apart zero s = tt
 members-apart (suc n) s = go (s n) (members-apart n s)
@@ -149,7 +160,7 @@ members-apart (suc n) s = go (s n) (members-apart n s)
     fresh = has-members n s n ∙ ap (λ b. b && s n) (le-ltb n n (omega arith))
 
     go : (b : Bool) → Apart (members n s) → Apart (members n s ++ cond b (n ∷ []) [])
-    go true before = apart-append-last (members n s) n before fresh
+    go true before = apart-append (members n s) (n ∷ []) before (refl, tt) (λ k h. ap (λ b. b || false) (ne-eqb n k (λ e. both-ways (has (members n s) n) fresh (ap (has (members n s)) e ∙ h))))
     go false before = subst Apart (sym (append-nil (members n s))) before
 
 pub members-same : (n : ℕ) (s t : Set) → ((k : ℕ) → k < n → s k ≡ t k) → members n s ≡ members n t

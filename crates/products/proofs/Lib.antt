@@ -1,0 +1,5 @@
+pub mod Pairing
+pub mod Blocks
+pub mod Evens
+pub mod Moving
+pub mod Telling

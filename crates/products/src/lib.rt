@@ -1,0 +1,4 @@
+// Product codes.
+pub mod pairs;
+pub mod product;
+pub mod sides;
