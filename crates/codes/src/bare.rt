@@ -51,7 +51,11 @@ pub impl<G: Graph> Code for Bare<G> as BareCode {
     }
 
     fn generators_of(&self, v: Qubit) -> Option<u32> {
-        if v.0 < self.graph.variables() { Some(0) } else { None }
+        if v.0 < self.graph.variables() {
+            Some(0)
+        } else {
+            None
+        }
     }
 
     fn check_qubit(&self, u: Check, k: u32) -> Option<Qubit> {

@@ -7,3 +7,4 @@ pub mod Added
 pub mod Toggled
 pub mod Weighed
 pub mod Hexing
+pub mod Filled

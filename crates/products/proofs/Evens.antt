@@ -75,7 +75,7 @@ module _ (a b : Tanner) (wa : Wired a) (wb : Wired b) where
     y% = mod-below y (b .variables) (wb .some-variables)
 
     generator-at-left : (i j : ℕ) → i < a .variables → j < b .variables
-      → has (product-of a b .of-generator y) (i * b .variables + j) ≡ (eqb (y % b .variables) j && has (a .of-check (y / b .variables)) i)
+        → has (product-of a b .of-generator y) (i * b .variables + j) ≡ (eqb (y % b .variables) j && has (a .of-check (y / b .variables)) i)
     generator-at-left i j hi hj =
         let n = b .variables in
         in-left generators-left generators-right y (i * n + j) (omega (arith, mul-add-lt i n j (a .variables) hi hj, mul-comm (a .variables) n))
@@ -83,7 +83,7 @@ module _ (a b : Tanner) (wa : Wired a) (wb : Wired b) where
         ∙ ap₂ (λ r s. eqb (y % n) r && has (a .of-check (y / n)) s) (mod-mul-add i n j hj) (div-mul-add i n j hj)
 
     generator-at-right : (p q : ℕ) → p < a .checks → q < b .checks
-      → has (product-of a b .of-generator y) (a .variables * b .variables + (p * b .checks + q)) ≡ (eqb (y / b .variables) p && has (b .of-variable (y % b .variables)) q)
+        → has (product-of a b .of-generator y) (a .variables * b .variables + (p * b .checks + q)) ≡ (eqb (y / b .variables) p && has (b .of-variable (y % b .variables)) q)
     generator-at-right p q hp hq =
         let n = b .variables in
         let m = b .checks in
@@ -102,7 +102,7 @@ module _ (a b : Tanner) (wa : Wired a) (wb : Wired b) where
     x% = mod-below x (b .checks) (wb .some-checks)
 
     check-at-left : (i j : ℕ) → i < a .variables → j < b .variables
-      → has (product-of a b .of-check x) (i * b .variables + j) ≡ (eqb (x / b .checks) i && has (b .of-check (x % b .checks)) j)
+        → has (product-of a b .of-check x) (i * b .variables + j) ≡ (eqb (x / b .checks) i && has (b .of-check (x % b .checks)) j)
     check-at-left i j hi hj =
         let n = b .variables in
         let m = b .checks in
@@ -111,7 +111,7 @@ module _ (a b : Tanner) (wa : Wired a) (wb : Wired b) where
         ∙ ap₂ (λ r s. eqb (x / m) r && has (b .of-check (x % m)) s) (div-mul-add i n j hj) (mod-mul-add i n j hj)
 
     check-at-right : (p q : ℕ) → p < a .checks → q < b .checks
-      → has (product-of a b .of-check x) (a .variables * b .variables + (p * b .checks + q)) ≡ (eqb (x % b .checks) q && has (a .of-variable (x / b .checks)) p)
+        → has (product-of a b .of-check x) (a .variables * b .variables + (p * b .checks + q)) ≡ (eqb (x % b .checks) q && has (a .of-variable (x / b .checks)) p)
     check-at-right p q hp hq =
         let n = b .variables in
         let m = b .checks in

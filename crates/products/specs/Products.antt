@@ -30,10 +30,10 @@ matrix-of t p v = has (t .of-check p) v
 -- and the generator matrix is the block row (A ⊗ identity, identity ⊗ transpose of B), entry by entry.
 pub record Block-rows (a b : Tanner) (c : Layout) : Type 0 where
   pub check-left : (i q i′ j : ℕ) → i < a .variables → q < b .checks → i′ < a .variables → j < b .variables
-    → has (c .of-check (i * b .checks + q)) (i′ * b .variables + j) ≡ (eqb i i′ && matrix-of b q j)
+      → has (c .of-check (i * b .checks + q)) (i′ * b .variables + j) ≡ (eqb i i′ && matrix-of b q j)
   pub check-right : (i q p q′ : ℕ) → i < a .variables → q < b .checks → p < a .checks → q′ < b .checks
-    → has (c .of-check (i * b .checks + q)) (a .variables * b .variables + (p * b .checks + q′)) ≡ (matrix-of a p i && eqb q q′)
+      → has (c .of-check (i * b .checks + q)) (a .variables * b .variables + (p * b .checks + q′)) ≡ (matrix-of a p i && eqb q q′)
   pub generator-left : (p j i j′ : ℕ) → p < a .checks → j < b .variables → i < a .variables → j′ < b .variables
-    → has (c .of-generator (p * b .variables + j)) (i * b .variables + j′) ≡ (matrix-of a p i && eqb j j′)
+      → has (c .of-generator (p * b .variables + j)) (i * b .variables + j′) ≡ (matrix-of a p i && eqb j j′)
   pub generator-right : (p j p′ q : ℕ) → p < a .checks → j < b .variables → p′ < a .checks → q < b .checks
-    → has (c .of-generator (p * b .variables + j)) (a .variables * b .variables + (p′ * b .checks + q)) ≡ (eqb p p′ && matrix-of b q j)
+      → has (c .of-generator (p * b .variables + j)) (a .variables * b .variables + (p′ * b .checks + q)) ≡ (eqb p p′ && matrix-of b q j)

@@ -150,5 +150,11 @@ pub(crate) fn qubit_generator<A: Graph, B: Graph>(a: &A, b: &B, v: u32, k: u32) 
     if v < start {
         return first_moves(&Variables { graph: a }, b.variables(), v, k);
     }
-    second_moves(&Checks { graph: b }, b.checks(), b.variables(), v - start, k)
+    second_moves(
+        &Checks { graph: b },
+        b.checks(),
+        b.variables(),
+        v - start,
+        k,
+    )
 }

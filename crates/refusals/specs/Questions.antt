@@ -43,3 +43,8 @@ first-no (q ∷ qs) = cond (q .0) (first-no qs) (Some (q .1))
 abbrev pub answer : Option Refusal → Result (Unit {0}) Refusal
 answer None = Ok tt
 answer (Some e) = Err e
+
+-- the first where every question was answered yes, and the second where a call was refused
+abbrev pub where-accepted : {X : Type 0} → Option Refusal → X → X → X
+where-accepted None x y = x
+where-accepted (Some e) x y = y
