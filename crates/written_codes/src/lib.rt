@@ -1,0 +1,3 @@
+// Codes that are written out row by row.
+pub mod making;
+pub mod written;
