@@ -1,10 +1,9 @@
 -- Kinds of codes keep what every code keeps. Assumes nothing.
-use mathlib.Core.Path.{_≡_, refl}
+use mathlib.Core.Path.{refl}
 use mathlib.Core.List.{List, []}
-use mathlib.Core.Bool.{false, true}
-use Prim.Native.Nat.{ℕ, _≤_, _<_}
+use mathlib.Core.Bool.{false}
+use Prim.Native.Nat.{ℕ, _≤_}
 use native.Mathlib.Omega.{arith}
-use lib.ListN.{length}
 use Rattle.std.proofs.shelf.Tests.{both-ways}
 use Rattle.matrices.specs.Relations.{Paired}
 use Rattle.graphs.specs.Tanners.{Tanner, Wired}

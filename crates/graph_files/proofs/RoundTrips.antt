@@ -1,32 +1,30 @@
 -- A graph written and read is the same graph, and a file read and written is the same file. Assumes nothing.
 use mathlib.Core.Path.{_≡_, refl, sym, ap, ap₂, _∙_, subst}
-use mathlib.Core.List.{List, [], _∷_, _++_, map}
-use mathlib.Core.Bool.{Bool, true, false, _&&_}
+use mathlib.Core.List.{List, _∷_, _++_, map}
+use mathlib.Core.Bool.{true, _&&_}
 use mathlib.Core.Logic.{⊎-elim}
 use Prim.Native.Nat.{ℕ, zero, suc, _+_, _*_, _/_, _%_, _<_, _≤_}
 use native.Mathlib.Nat.{mul-comm, suc-mul}
 use native.Mathlib.Omega.{arith}
-use lib.Dec.{eqb, ltb, leb}
-use lib.ListN.{length, getD, take, drop}
+use lib.Dec.{eqb, leb}
+use lib.ListN.{length, getD, drop}
 use Rattle.std.specs.Iters.{counting}
-use Rattle.std.specs.Joined.{joined}
-use Rattle.std.specs.declared.option.Option.the-variants.{Some, None}
+use Rattle.std.specs.declared.option.Option.the-variants.{None}
 use Rattle.std.proofs.shelf.Bits.{mul-le}
 use Rattle.std.proofs.shelf.Lists.{length-drop, length-take, length-take-le, getD-take, getD-drop, drop-more}
-use Rattle.std.proofs.shelf.Tests.{cases-lt, cases-bool, lt-ltb, le-ltb, leb-true, le-leb, eqb-true, eq-eqb, and-parts, and-from, both-ways}
-use Rattle.refusals.specs.declared.Refusal.the-variants.{HeadCutShort, WrongMark, WrongVersion, CountOutOfRange, WrongLength, UnusedBitSet, DegreeOutOfRange}
-use Rattle.refusals.specs.Questions.{Question, first-no}
+use Rattle.std.proofs.shelf.Tests.{cases-lt, cases-bool, lt-ltb, le-ltb, leb-true, le-leb, eqb-true, eq-eqb, and-parts, and-from}
+use Rattle.refusals.specs.Questions.{first-no}
 use Rattle.refusals.proofs.Asking.{Yes, yes-from-none, none-from-yes, first-no-rest}
-use Rattle.patterns.specs.Sets.{Set, has, members, tally, all-below}
-use Rattle.patterns.specs.Patterns.{width, member, pattern, fitting, tidy, Well, Bytes}
-use Rattle.patterns.proofs.Lists.{has-members, members-within, all-below-at, all-below-from}
+use Rattle.patterns.specs.Sets.{Set, has, members, tally}
+use Rattle.patterns.specs.Patterns.{width, member, pattern, tidy, Well, Bytes}
+use Rattle.patterns.proofs.Lists.{has-members, all-below-at, all-below-from}
 use Rattle.patterns.proofs.Packed.{length-pattern, member-pattern, pattern-same, pattern-well, well-pattern}
 use Rattle.patterns.proofs.Weighed.{tally-same, tally-has}
-use Rattle.matrices.specs.Relations.{Paired, listed, tabled}
+use Rattle.matrices.specs.Relations.{listed, tabled}
 use Rattle.matrices.specs.Rows.{row, entry, turned-entry, just-rows, tidy-rows, few}
 use Rattle.matrices.proofs.Tables.{length-tabled, listed-tabled}
 use Rattle.graphs.specs.Tanners.{Tanner, Wired, Same, counted, most-nodes, most-neighbours}
-use Rattle.graph_files.specs.Files.{word, marked, variables-in, checks-in, rows-in, head-questions, row-questions, graph-refusal, rows-graph, graph-in, head-of, row-of, rows-of, file-of, Written-is-read}
+use Rattle.graph_files.specs.Files.{word, variables-in, checks-in, rows-in, head-questions, row-questions, graph-refusal, rows-graph, graph-in, head-of, row-of, rows-of, file-of, Written-is-read}
 use Rattle.graph_files.proofs.Blocks.{joined-same, length-blocks, block-at, blocks-are}
 
 -- ---- written, then read

@@ -13,10 +13,10 @@ use Rattle.refusals.specs.declared.Refusal.{Refusal}
 use Rattle.refusals.specs.declared.Refusal.the-variants.{HeadCutShort, WrongMark, WrongVersion, CountOutOfRange, WrongLength, UnusedBitSet, DegreeOutOfRange}
 use Rattle.refusals.specs.Questions.{Question, first-no}
 use Rattle.patterns.specs.Sets.{has}
-use Rattle.patterns.specs.Patterns.{Bytes, pattern}
+use Rattle.patterns.specs.Patterns.{pattern}
 use Rattle.matrices.specs.Relations.{tabled}
 use Rattle.matrices.specs.Rows.{entry, turned-entry, just-rows, tidy-rows, few}
-use Rattle.graphs.specs.Tanners.{Tanner, Wired, Same, counted, most-neighbours}
+use Rattle.graphs.specs.Tanners.{Tanner, Same, counted, most-neighbours}
 use Rattle.graph_files.specs.Listed.{listed-graph}
 
 -- ---- reading

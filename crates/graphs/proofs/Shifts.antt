@@ -1,9 +1,9 @@
 -- Shifts that rise strictly below n make a graph. Assumes nothing.
 use mathlib.Core.Path.{_≡_, refl, sym, ap, _∙_, subst}
 use mathlib.Core.List.{List, [], _∷_, map}
-use mathlib.Core.Bool.{Bool, true, false, cond, _&&_}
+use mathlib.Core.Bool.{true, false, _&&_}
 use mathlib.Core.Logic.{⊎-elim}
-use Prim.Native.Nat.{ℕ, zero, suc, _+_, _-_, _%_, _<_, _≤_}
+use Prim.Native.Nat.{ℕ, _+_, _-_, _%_, _<_, _≤_}
 use native.Mathlib.Nat.{mod-lt}
 use native.Mathlib.Omega.{arith}
 use lib.Dec.{eqb, ltb, leb}
@@ -19,7 +19,7 @@ use Rattle.patterns.specs.Sets.{has, Apart}
 use Rattle.patterns.proofs.Lists.{has-map-from, has-map-same, apart-map}
 use Rattle.matrices.specs.Relations.{Paired, size-at, neighbour}
 use Rattle.matrices.proofs.Lookups.{nth-has, nth-map}
-use Rattle.graphs.specs.Tanners.{Tanner, Wired, counted, most-nodes, most-neighbours}
+use Rattle.graphs.specs.Tanners.{Wired, counted, most-nodes, most-neighbours}
 use Rattle.graphs.specs.Cycles.{rising-from, rising, shift-count, cyclic}
 use Rattle.graphs.proofs.Rotations.{both-ends, on-apart, back-apart}
 

@@ -1,7 +1,6 @@
 // A matrix of bits: rows that are patterns over the columns, one after another in the caller's bytes.
 ghost use denote.Ref.{now as at};
 ghost use mathlib.Core.Path.{_≡_};
-ghost use mathlib.Core.Bool.{Bool};
 ghost use Prim.Native.Nat.{ℕ};
 ghost use Rattle.patterns.specs.Sets.{Set, tally};
 ghost use Rattle.matrices.specs.Rows.{row, entry, turned-entry, tidy-rows, few};

@@ -1,9 +1,9 @@
 -- What a set added to a pattern leaves. Assumes nothing.
-use mathlib.Core.Path.{_≡_, refl, sym, ap, ap₂, _∙_}
-use mathlib.Core.List.{List, [], _∷_}
-use mathlib.Core.Bool.{Bool, true, false, _&&_}
+use mathlib.Core.Path.{_≡_, refl, sym, ap, _∙_}
+use mathlib.Core.List.{List}
+use mathlib.Core.Bool.{true, false, _&&_}
 use mathlib.Core.Logic.{⊎-elim}
-use Prim.Native.Nat.{ℕ, _+_, _*_, _/_, _%_, _^_, _<_, _≤_}
+use Prim.Native.Nat.{ℕ, _+_, _*_, _/_, _%_, _^_, _<_}
 use native.Mathlib.Omega.{arith}
 use native.Mathlib.Nat.{div-eq-of-lt}
 use lib.Bits.{bitXor, xor-lt, xor-assoc, xor-zero-r, xor-zero-l}
@@ -13,7 +13,7 @@ use Rattle.std.proofs.shelf.Counted.{length-map-counting, getD-map-counting}
 use Rattle.std.proofs.shelf.Lists.{getD-past, ext-getD, length-replicate, getD-replicate}
 use Rattle.std.proofs.shelf.Tests.{cases-lt, eq-eqb, eqb-true, lt-ltb, and-right, both-ways}
 use Rattle.patterns.specs.Sets.{Set, _⊕_}
-use Rattle.patterns.specs.Patterns.{bit, member, value, eight, width, pattern, added, fitting, tidy, Well}
+use Rattle.patterns.specs.Patterns.{bit, member, value, eight, width, pattern, added, tidy, Well}
 use Rattle.patterns.proofs.Sums.{and-plus}
 use Rattle.patterns.proofs.Bits.{bit-xor, below-power}
 use Rattle.patterns.proofs.Values.{value-same, value-small, bit-value, value-xor, value-none}

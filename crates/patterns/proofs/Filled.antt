@@ -1,19 +1,18 @@
 -- A pattern that is filled item by item, in rising order. Assumes nothing.
-use mathlib.Core.Path.{_≡_, refl, sym, ap, ap₂, _∙_}
+use mathlib.Core.Path.{_≡_, sym, ap, ap₂, _∙_}
 use mathlib.Core.List.{List}
-use mathlib.Core.Bool.{Bool, true, false, _&&_}
+use mathlib.Core.Bool.{true, false, _&&_}
 use mathlib.Core.Logic.{⊎-elim}
-use Prim.Native.Nat.{ℕ, _+_, _<_, _≤_}
+use Prim.Native.Nat.{ℕ, _+_, _<_}
 use native.Mathlib.Omega.{arith}
 use lib.Dec.{eqb, ltb}
-use lib.ListN.{length, replicate}
-use Rattle.std.proofs.shelf.Lists.{length-replicate}
+use lib.ListN.{replicate}
 use Rattle.std.proofs.shelf.Tests.{cases-eq, cases-lt, eq-eqb, ne-eqb, lt-ltb, le-ltb}
 use Rattle.patterns.specs.Sets.{Set, _⊕_}
 use Rattle.patterns.specs.Patterns.{width, pattern, toggled, added}
 use Rattle.patterns.proofs.Sums.{plus-zero}
 use Rattle.patterns.proofs.Packed.{pattern-same, pattern-well}
-use Rattle.patterns.proofs.Added.{added-same, added-added, added-none, added-to-none}
+use Rattle.patterns.proofs.Added.{added-added, added-none, added-to-none}
 use Rattle.patterns.proofs.Toggled.{toggled-is}
 
 -- the items of s below u

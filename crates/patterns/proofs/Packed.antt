@@ -1,20 +1,20 @@
 -- A pattern holds its set, and a well-formed pattern is the pattern of its members. Assumes nothing.
-use mathlib.Core.Path.{_≡_, refl, sym, ap, ap₂, _∙_, subst}
-use mathlib.Core.List.{List, [], _∷_, map}
-use mathlib.Core.Bool.{Bool, true, false, cond, _&&_}
+use mathlib.Core.Path.{_≡_, sym, ap, ap₂, _∙_, subst}
+use mathlib.Core.List.{List}
+use mathlib.Core.Bool.{true, false, _&&_}
 use mathlib.Core.Logic.{⊎-elim}
-use Prim.Native.Nat.{ℕ, zero, suc, _+_, _-_, _*_, _/_, _%_, _^_, _<_, _≤_}
+use Prim.Native.Nat.{ℕ, _+_, _*_, _/_, _%_, _^_, _<_, _≤_}
 use native.Mathlib.Omega.{arith}
 use native.Mathlib.Nat.{div-eq-of-lt, mod-eq-of-lt}
 use lib.Dec.{eqb, ltb}
-use lib.ListN.{length, getD, replicate}
+use lib.ListN.{length, getD}
 use lib.Pow.{pow-pos}
 use Rattle.std.proofs.shelf.Bits.{div-mul-add, mod-mul-add}
 use Rattle.std.proofs.shelf.Counted.{length-map-counting, getD-map-counting}
 use Rattle.std.proofs.shelf.Lists.{getD-past, ext-getD}
 use Rattle.std.proofs.shelf.Tests.{cases-lt, lt-ltb, le-ltb, eqb-true, eq-eqb, both-ways}
 use Rattle.patterns.specs.Sets.{Set}
-use Rattle.patterns.specs.Patterns.{bit, member, value, eight, width, pattern, fitting, tidy, Well, Bytes}
+use Rattle.patterns.specs.Patterns.{bit, member, value, eight, width, pattern, tidy, Well, Bytes}
 use Rattle.patterns.proofs.Bits.{bit-high, bit-zero}
 use Rattle.patterns.proofs.Values.{value-lt, value-same, value-small, bit-value, value-bit}
 

@@ -1,5 +1,5 @@
 -- Changes of single items, and of each item of a list. Assumes nothing.
-use mathlib.Core.Path.{_≡_, refl, sym, ap, ap₂, _∙_, subst}
+use mathlib.Core.Path.{_≡_, refl, sym, ap, ap₂, _∙_}
 use mathlib.Core.List.{List, [], _∷_}
 use mathlib.Core.Bool.{Bool, true, false, cond, _&&_, and-true}
 use mathlib.Core.Logic.{⊎-elim}
@@ -12,13 +12,12 @@ use lib.ListN.{length, getD, set, length-set}
 use lib.Pow.{pow-lt}
 use Rattle.std.proofs.shelf.Lists.{getD-set-same, getD-set-other, set-past, set-getD}
 use Rattle.std.proofs.shelf.Tests.{cases-eq, cases-bool, eq-eqb, ne-eqb, eqb-true, eqb-false, or-right, lt-ltb, and-right, cond-true, cond-false}
-use Rattle.patterns.specs.Sets.{Set, _⊕_, has, Apart}
+use Rattle.patterns.specs.Sets.{_⊕_, has, Apart}
 use Rattle.patterns.specs.Patterns.{bit, member, toggled, toggled-all, cleared, value, eight, width, added, fitting}
 use Rattle.patterns.proofs.Sums.{plus-comm, plus-zero}
 use Rattle.patterns.proofs.Lists.{has-here, has-more}
 use Rattle.patterns.proofs.Bits.{bit-xor, bit-and, bit-pow}
 use Rattle.patterns.proofs.Values.{bit-value, value-same, value-none, value-one, same-byte}
-use Rattle.patterns.proofs.Packed.{place}
 use Rattle.patterns.proofs.Added.{added-is, added-none, added-same, added-added}
 
 pub length-toggled : (p : List ℕ) (k : ℕ) → length (toggled p k) ≡ length p

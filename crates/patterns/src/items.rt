@@ -1,6 +1,6 @@
 // One item of a pattern. An item past the last byte is in no pattern, and a call that would change it changes nothing.
 ghost use mathlib.Core.Path.{_≡_};
-ghost use Prim.Native.Nat.{ℕ, _/_};
+ghost use Prim.Native.Nat.{_/_};
 ghost use lib.Dec.{ltb};
 ghost use lib.ListN.{length};
 ghost use Rattle.patterns.specs.Patterns.{member, toggled, cleared};

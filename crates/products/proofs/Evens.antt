@@ -1,24 +1,22 @@
 -- The product of two graphs is a code. Assumes nothing.
 use mathlib.Core.Path.{_≡_, refl, sym, ap, ap₂, _∙_}
-use mathlib.Core.List.{List, [], _∷_, _++_, map}
-use mathlib.Core.Bool.{Bool, true, false, _&&_, and-comm, and-true, and-false}
-use mathlib.Core.Logic.{⊎-elim}
-use Prim.Native.Nat.{ℕ, _+_, _-_, _*_, _/_, _%_, _<_, _≤_}
+use mathlib.Core.List.{List, [], _∷_, map}
+use mathlib.Core.Bool.{Bool, true, false, _&&_, and-comm}
+use Prim.Native.Nat.{ℕ, _+_, _-_, _*_, _/_, _%_, _<_}
 use native.Mathlib.Omega.{arith}
 use native.Mathlib.Nat.{mul-comm}
 use lib.Dec.{eqb}
-use lib.ListN.{length}
 use Rattle.std.proofs.shelf.Bits.{mul-le, mul-lt, div-below, mod-below, mul-add-lt, div-mul-add, mod-mul-add}
-use Rattle.std.proofs.shelf.Tests.{cases-bool, eqb-true, eqb-false}
+use Rattle.std.proofs.shelf.Tests.{eqb-true, eqb-false}
 use Rattle.patterns.specs.Sets.{Set, _⊕_, has, parity}
 use Rattle.patterns.proofs.Sums.{plus-self}
-use Rattle.patterns.proofs.Lists.{eqb-swap, parity-append, parity-map, parity-same, parity-none, parity-one}
+use Rattle.patterns.proofs.Lists.{parity-append, parity-map, parity-same, parity-one}
 use Rattle.matrices.specs.Relations.{Paired}
 use Rattle.graphs.specs.Tanners.{Tanner, Wired, most-nodes}
 use Rattle.graphs.proofs.Turns.{paired-turned}
-use Rattle.codes.specs.Layouts.{Layout, Sound}
-use Rattle.products.specs.Pairs.{by-first, by-second, two-blocks}
-use Rattle.products.specs.Products.{product-of, matrix-of, Block-rows}
+use Rattle.codes.specs.Layouts.{Sound}
+use Rattle.products.specs.Pairs.{by-first, by-second}
+use Rattle.products.specs.Products.{product-of, Block-rows}
 use Rattle.products.proofs.Pairing.{first-paired, first-has, first-none, second-paired, second-has, second-none}
 use Rattle.products.proofs.Blocks.{blocks-paired, in-left, in-right}
 

@@ -1,21 +1,17 @@
 -- What the neighbours of a pair are, by those of one part. Assumes nothing.
-use mathlib.Core.Path.{_≡_, refl, sym, ap, _∙_}
-use mathlib.Core.List.{List, [], _∷_, _++_, map}
-use mathlib.Core.Bool.{true}
-use Prim.Native.Nat.{ℕ, zero, suc, _+_, _-_, _*_, _%_, _<_, _≤_}
+use mathlib.Core.Path.{_≡_, sym, ap, _∙_}
+use mathlib.Core.List.{List, map}
+use Prim.Native.Nat.{ℕ, _+_, _*_, _<_, _≤_}
 use native.Mathlib.Omega.{arith}
 use lib.Dec.{ltb}
-use lib.ListN.{length}
 use Rattle.std.specs.Finite.{nth}
 use Rattle.std.specs.Options.{mapped}
-use Rattle.std.specs.declared.option.Option.{Option}
 use Rattle.std.specs.declared.option.Option.the-variants.{Some, None}
 use Rattle.std.proofs.shelf.Bits.{mul-le}
 use Rattle.std.proofs.shelf.Tests.{lt-ltb, cond-true}
-use Rattle.matrices.specs.Relations.{neighbour, size-at}
+use Rattle.matrices.specs.Relations.{neighbour}
 use Rattle.matrices.proofs.Lookups.{nth-map}
 use Rattle.graphs.specs.Tanners.{most-nodes}
-use Rattle.products.specs.Pairs.{two-blocks}
 
 module _ (m : ℕ) (lists : ℕ → List ℕ) (f : ℕ → ℕ) (u k : ℕ) (here : u < m) where
   at-node : nth (map f (lists u)) k ≡ mapped f (neighbour m lists u k)

@@ -1,7 +1,6 @@
 -- What a product tells of a node, by what its parts tell. Assumes nothing.
 use mathlib.Core.Path.{_≡_, refl, sym, ap, _∙_, subst}
 use mathlib.Core.List.{List, [], _∷_, _++_, map}
-use mathlib.Core.Bool.{true, cond}
 use Prim.Native.Nat.{ℕ, zero, suc, _+_, _-_, _*_, _/_, _%_, _<_, _≤_}
 use native.Mathlib.Omega.{arith}
 use lib.Dec.{ltb}
@@ -15,7 +14,7 @@ use Rattle.std.proofs.shelf.Lists.{length-append, length-map}
 use Rattle.std.proofs.shelf.Tests.{lt-ltb, le-ltb, cond-true, cond-false}
 use Rattle.matrices.specs.Relations.{neighbour, size-at}
 use Rattle.matrices.proofs.Lookups.{nth-map}
-use Rattle.graphs.specs.Tanners.{Tanner, Wired, most-nodes}
+use Rattle.graphs.specs.Tanners.{Tanner, Wired}
 use Rattle.products.specs.Pairs.{by-first, by-second, two-blocks, in-block, Bounded}
 
 -- ---- neighbours are nodes

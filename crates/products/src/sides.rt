@@ -3,7 +3,6 @@ ghost use denote.Ref.{now as at};
 ghost use mathlib.Core.Path.{_≡_};
 ghost use mathlib.Core.List.{List};
 ghost use Prim.Native.Nat.{ℕ, _<_, _≤_, _/_, _%_};
-ghost use lib.ListN.{length};
 ghost use Rattle.std.specs.Finite.{nth};
 ghost use Rattle.std.specs.Slices.{found};
 ghost use Rattle.matrices.specs.Relations.{size-at, neighbour};

@@ -1,12 +1,12 @@
 -- The parity of a set over the qubits of a check, one after another. Assumes nothing.
 use mathlib.Core.Path.{_≡_, refl, sym, ap, _∙_}
-use mathlib.Core.List.{List, [], _∷_}
+use mathlib.Core.List.{List}
 use mathlib.Core.Bool.{Bool, true, false, not, Bool·beq}
 use Prim.Native.Nat.{ℕ, _+_, _≤_}
 use lib.ListN.{length, drop}
 use Rattle.std.proofs.shelf.Lists.{at-drop-more, at-drop-all}
 use Rattle.patterns.specs.Sets.{Set, _⊕_, parity}
-use Rattle.patterns.proofs.Sums.{plus-zero, plus-comm, plus-assoc}
+use Rattle.patterns.proofs.Sums.{plus-zero, plus-assoc}
 use Rattle.matrices.proofs.Lookups.{Found}
 
 not-is-plus : (b : Bool) → not b ≡ (b ⊕ true)

@@ -8,7 +8,7 @@ use Rattle.std.specs.declared.result.Result.the-variants.{Ok, Err}
 use Rattle.std.specs.declared.option.Option.the-variants.{Some, None}
 use Rattle.refusals.specs.declared.Refusal.{Refusal}
 use Rattle.refusals.specs.declared.Refusal.the-variants.{WrongPatternLength, UnusedBitSet}
-use Rattle.refusals.specs.Questions.{Question, first-no}
+use Rattle.refusals.specs.Questions.{Question}
 use Rattle.patterns.specs.Sets.{Set, _⊕_, parity, all-below}
 use Rattle.patterns.specs.Patterns.{member, fitting, tidy, pattern}
 use Rattle.codes.specs.Layouts.{Layout}

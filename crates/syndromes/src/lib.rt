@@ -1,9 +1,8 @@
 // Syndromes over any code.
 ghost use mathlib.Core.Path.{_≡_};
-ghost use Prim.Native.Nat.{_<_, _+_, _*_};
-ghost use lib.ListN.{length};
+ghost use Prim.Native.Nat.{_<_};
 ghost use Rattle.refusals.specs.Questions.{first-no, answer, where-accepted};
-ghost use Rattle.patterns.specs.Patterns.{member, fitting};
+ghost use Rattle.patterns.specs.Patterns.{member};
 ghost use Rattle.syndromes.specs.Syndromes.{syndrome-of, syndrome-questions, syndrome-pattern, alike-questions, alike-answer};
 use codes::code::Check;
 use codes::code::Code;

@@ -1,16 +1,15 @@
 -- Rows that were asked make lists within the limits. Assumes nothing.
-use mathlib.Core.Path.{_≡_, sym, ap, ap₂, _∙_}
+use mathlib.Core.Path.{_≡_, ap, ap₂, _∙_}
 use mathlib.Core.List.{List}
 use mathlib.Core.Bool.{true, _&&_}
 use Prim.Native.Nat.{ℕ}
 use lib.ListN.{length}
 use Rattle.std.proofs.shelf.Tests.{and-parts}
 use Rattle.refusals.proofs.Asking.{Yes}
-use Rattle.patterns.specs.Sets.{Set}
 use Rattle.matrices.specs.Relations.{tabled, short}
 use Rattle.matrices.specs.Rows.{entry, turned-entry, few}
 use Rattle.matrices.proofs.Tables.{length-tabled, short-tabled}
-use Rattle.codes.specs.Layouts.{Layout, most-weight}
+use Rattle.codes.specs.Layouts.{most-weight}
 use Rattle.written_codes.specs.Listing.{listed-code, most-written-qubits, most-written-rows, within, all-even}
 use Rattle.written_codes.specs.Writing.{light, written-questions, written-code}
 use Rattle.written_codes.proofs.Overlaps.{even-tabled}

@@ -1,7 +1,7 @@
-use Prim.Native.Nat.{_+_, _*_, _≤_}
+use Prim.Native.Nat.{_*_}
 use mathlib.Core.Path.{_≡_}
 use mathlib.Core.List.{_++_}
-use lib.ListN.{length, drop, take}
+use lib.ListN.{drop, take}
 use Rattle.patterns.specs.Hex.{hexed}
 use Rattle.patterns.proofs.hex.write_hex.Given as given
 

@@ -1,7 +1,6 @@
-use mathlib.Core.Path.{_≡_, refl}
-use Prim.Native.Nat.{_+_, _≤_}
+use mathlib.Core.Path.{_≡_}
+use Prim.Native.Nat.{_+_}
 use native.Mathlib.Omega.{arith}
-use lib.Count.{ones}
 use lib.ListN.{drop, getD}
 use Rattle.std.proofs.shelf.Bits.{ones-le}
 use Rattle.std.proofs.shelf.Lists.{at-drop-more, at-drop-all}

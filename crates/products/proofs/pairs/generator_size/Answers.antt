@@ -1,8 +1,7 @@
-use mathlib.Core.Path.{_≡_, sym, ap, ap₂, _∙_, subst}
-use Prim.Native.Nat.{ℕ, _+_, _-_, _*_, _/_, _%_, _<_, _≤_}
+use mathlib.Core.Path.{_∙_}
+use Prim.Native.Nat.{_+_, _*_, _/_, _%_, _<_}
 use native.Mathlib.Omega.{arith}
 use lib.ListN.{length}
-use Rattle.std.specs.Finite.{nth}
 use Rattle.std.proofs.shelf.Bits.{div-below, mod-below}
 use Rattle.std.proofs.shelf.Lists.{length-map}
 use Rattle.products.specs.Pairs.{by-first, by-second}

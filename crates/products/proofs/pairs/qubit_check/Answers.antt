@@ -1,11 +1,6 @@
-use mathlib.Core.Path.{_≡_, sym, ap, ap₂, _∙_, subst}
-use Prim.Native.Nat.{ℕ, _+_, _-_, _*_, _/_, _%_, _<_, _≤_}
+use mathlib.Core.Path.{_≡_}
+use Prim.Native.Nat.{_+_, _-_, _*_, _<_}
 use native.Mathlib.Omega.{arith}
-use lib.ListN.{length}
-use Rattle.std.specs.Finite.{nth}
-use Rattle.std.specs.declared.option.Option.the-variants.{Some}
-use Rattle.std.proofs.shelf.Bits.{div-below, mod-below}
-use Rattle.products.specs.Pairs.{by-first, by-second}
 use Rattle.products.proofs.Telling.{checks-bounded, variables-bounded, told-parts}
 use Rattle.products.proofs.pairs.qubit_check.Needs as need
 

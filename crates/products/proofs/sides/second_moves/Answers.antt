@@ -1,8 +1,7 @@
-use mathlib.Core.Path.{_≡_, sym, ap, _∙_, subst}
-use Prim.Native.Nat.{ℕ, _+_, _*_, _/_, _%_, _<_, _≤_}
+use mathlib.Core.Path.{sym, _∙_, subst}
+use Prim.Native.Nat.{_+_, _*_, _/_, _%_, _<_}
 use native.Mathlib.Omega.{arith}
 use Rattle.std.specs.Slices.{found}
-use Rattle.graphs.specs.Tanners.{most-nodes}
 use Rattle.matrices.proofs.Lookups.{found-at}
 use Rattle.products.proofs.Moving.{moved, none-moved, pair-below}
 use Rattle.products.proofs.sides.second_moves.Needs as need

@@ -1,4 +1,4 @@
-use mathlib.Core.Path.{sym, _∙_}
+use mathlib.Core.Path.{sym}
 use native.Mathlib.Omega.{arith}
 use Rattle.patterns.specs.Sets.{all-below}
 use Rattle.patterns.proofs.Lists.{all-below-more, all-below-fails}

@@ -1,4 +1,4 @@
-use mathlib.Core.Path.{_≡_, sym, ap, _∙_}
+use mathlib.Core.Path.{sym, ap, _∙_}
 use Rattle.refusals.proofs.Asking.{yes-from-none}
 use Rattle.matrices.specs.Adjacent.{lists}
 use Rattle.matrices.specs.Relations.{tabled}

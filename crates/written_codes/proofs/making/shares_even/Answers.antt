@@ -1,5 +1,4 @@
-use mathlib.Core.Path.{_≡_, sym, ap, _∙_}
-use mathlib.Core.Bool.{true, false}
+use mathlib.Core.Path.{sym, ap, _∙_}
 use Rattle.matrices.specs.Rows.{entry}
 use Rattle.written_codes.proofs.Overlaps.{overlap-more, overlap-first, overlap-none}
 use Rattle.written_codes.proofs.making.shares_even.Needs as need

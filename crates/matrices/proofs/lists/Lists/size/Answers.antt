@@ -1,8 +1,6 @@
 use mathlib.Core.Path.{ap, _∙_}
-use native.Mathlib.Omega.{arith}
 use Rattle.std.specs.Of.Vec.{vec-items}
 use Rattle.std.specs.declared.option.Option.the-variants.{Some}
-use Rattle.std.proofs.shelf.Tests.{ltb-false}
 use Rattle.matrices.proofs.Lookups.{size-past, size-here}
 use Rattle.matrices.proofs.lists.Lists.size.Needs as need
 

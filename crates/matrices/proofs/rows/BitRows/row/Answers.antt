@@ -1,6 +1,6 @@
-use mathlib.Core.Path.{_≡_, ap, ap₂, _∙_}
-use Prim.Native.Nat.{_+_, _*_, min}
-use lib.ListN.{length, take, drop}
+use mathlib.Core.Path.{ap, _∙_}
+use Prim.Native.Nat.{_*_}
+use lib.ListN.{take, drop}
 use Rattle.matrices.proofs.Cuts.{cut-within}
 use Rattle.matrices.proofs.rows.BitRows.row.Needs as need
 
