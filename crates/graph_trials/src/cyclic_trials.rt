@@ -10,98 +10,31 @@ use graphs::turned::Turned;
 use graphs::turned::TurnedGraph;
 use std::test::*;
 
-#[derive(Drop)]
-struct Shifts<'a> {
-    count: u32,
-    shifts: &'a [u32],
-    refused: Option<u8>,
-}
-
 #[test]
 fn shifts_are_asked_in_order(rt: LibcRuntime) -> Result<(), Fail> {
-    let cases = [
-        Shifts {
-            count: 0,
-            shifts: &[0],
-            refused: Some(4),
-        },
-        Shifts {
-            count: 97,
-            shifts: &[0],
-            refused: Some(4),
-        },
-        Shifts {
-            count: 97,
-            shifts: &[],
-            refused: Some(4),
-        },
-        Shifts {
-            count: u32::MAX,
-            shifts: &[u32::MAX, 0],
-            refused: Some(4),
-        },
-        Shifts {
-            count: 3,
-            shifts: &[],
-            refused: Some(7),
-        },
-        Shifts {
-            count: 8,
-            shifts: &[0, 1, 2, 3, 4, 5, 6],
-            refused: Some(7),
-        },
-        Shifts {
-            count: 3,
-            shifts: &[9, 9, 9, 9, 9, 9, 9],
-            refused: Some(7),
-        },
-        Shifts {
-            count: 3,
-            shifts: &[0, 3],
-            refused: Some(8),
-        },
-        Shifts {
-            count: 3,
-            shifts: &[1, 1],
-            refused: Some(8),
-        },
-        Shifts {
-            count: 5,
-            shifts: &[0, 2, 1],
-            refused: Some(8),
-        },
-        Shifts {
-            count: 3,
-            shifts: &[u32::MAX],
-            refused: Some(8),
-        },
-        Shifts {
-            count: 96,
-            shifts: &[96],
-            refused: Some(8),
-        },
-        Shifts {
-            count: 1,
-            shifts: &[0],
-            refused: None,
-        },
-        Shifts {
-            count: 96,
-            shifts: &[95],
-            refused: None,
-        },
-        Shifts {
-            count: 6,
-            shifts: &[0, 1, 2, 3, 4, 5],
-            refused: None,
-        },
+    let cases: [(u32, &[u32], Option<u8>); 15] = [
+        (0, &[0], Some(4)),
+        (97, &[0], Some(4)),
+        (97, &[], Some(4)),
+        (u32::MAX, &[u32::MAX, 0], Some(4)),
+        (3, &[], Some(7)),
+        (8, &[0, 1, 2, 3, 4, 5, 6], Some(7)),
+        (3, &[9, 9, 9, 9, 9, 9, 9], Some(7)),
+        (3, &[0, 3], Some(8)),
+        (3, &[1, 1], Some(8)),
+        (5, &[0, 2, 1], Some(8)),
+        (3, &[u32::MAX], Some(8)),
+        (96, &[96], Some(8)),
+        (1, &[0], None),
+        (96, &[95], None),
+        (6, &[0, 1, 2, 3, 4, 5], None),
     ];
-    for (i, case) in cases.iter().enumerate() {
-        let refused = match Cyclic::new(rt.alloc(), case.count, case.shifts) {
+    for (i, (count, shifts, number)) in cases.iter().enumerate() {
+        let refused = match Cyclic::new(rt.alloc(), *count, *shifts) {
             Ok(_) => None,
             Err(refusal) => Some(refusal.number()),
         };
-        check_eq(refused, case.refused).note(format_args!("case {i}"))?;
+        check_eq(refused, *number).note(format_args!("case {i}"))?;
     }
     Ok(())
 }
@@ -143,32 +76,9 @@ fn a_turned_graph_is_written_and_read(rt: LibcRuntime) -> Result<(), Fail> {
         .ok()
         .ok_or("refused")?;
     let mut file = [0; 14];
-    check_eq(
-        write_graph(&Turned { graph }, &mut file)
-            .ok()
-            .ok_or("no room")?,
-        14,
-    )?;
-    // Row p has the variables that check p of the turned graph has: the checks p, p - 2 and p - 4 mod 5 of the graph.
-    check_eq(
-        file,
-        [
-            0x54,
-            0x41,
-            0x4E,
-            0x00,
-            0x01,
-            0x00,
-            0x05,
-            0x00,
-            0x05,
-            0x0B,
-            0x16,
-            0x0D,
-            0x1A,
-            0x15,
-        ],
-    )?;
+    check_eq(write_graph(&Turned { graph }, &mut file).ok(), Some(14))?;
+    // Check p of the turned graph has the variables p, p - 2 and p - 4 mod 5.
+    check_eq(file, *b"TAN\x00\x01\x00\x05\x00\x05\x0B\x16\x0D\x1A\x15")?;
     let read = read_graph(rt.alloc(), &file).ok().ok_or("refused")?;
     let edges = Edges {
         of_variables: &[&[0, 2, 4], &[0, 1, 3], &[1, 2, 4], &[0, 2, 3], &[1, 3, 4]],

@@ -10,23 +10,14 @@ use std::test::*;
 
 #[test]
 fn items_stand_in_their_bits() -> Result<(), Fail> {
-    // 0xA5 is 128 + 32 + 4 + 1, and there is no third byte.
-    let bits = [0xA5, 0x01];
-    let inside = [
-        (0, true),
-        (1, false),
-        (2, true),
-        (5, true),
-        (6, false),
-        (7, true),
-        (8, true),
-        (9, false),
-        (15, false),
-        (16, false),
-        (u32::MAX, false),
-    ];
-    for (k, is) in inside {
-        check_eq(contains(&bits, k), is).note(format_args!("item {k}"))?;
+    // 0xA5 is 128 + 32 + 4 + 1; the items from 16 on have no byte.
+    let inside = [0, 2, 5, 7, 8];
+    let outside = [1, 3, 4, 6, 9, 15, 16, 17, u32::MAX];
+    for k in inside {
+        check(contains(b"\xA5\x01", k)).note(k)?;
+    }
+    for k in outside {
+        check(!contains(b"\xA5\x01", k)).note(k)?;
     }
     Ok(())
 }
@@ -35,116 +26,45 @@ fn items_stand_in_their_bits() -> Result<(), Fail> {
 fn items_change_alone() -> Result<(), Fail> {
     // The pattern, the item, the pattern with it changed, the pattern without it, and whether it has a place.
     let cases = [
-        ([0x00, 0x00], 0, [0x01, 0x00], [0x00, 0x00], true),
-        ([0x01, 0x00], 0, [0x00, 0x00], [0x00, 0x00], true),
-        ([0x12, 0x34], 9, [0x12, 0x36], [0x12, 0x34], true),
-        ([0xFF, 0xFF], 15, [0xFF, 0x7F], [0xFF, 0x7F], true),
-        ([0x12, 0x34], 16, [0x12, 0x34], [0x12, 0x34], false),
-        ([0xFF, 0xFF], u32::MAX, [0xFF, 0xFF], [0xFF, 0xFF], false),
+        (b"\x00\x00", 0, b"\x01\x00", b"\x00\x00", true),
+        (b"\x01\x00", 0, b"\x00\x00", b"\x00\x00", true),
+        (b"\x12\x34", 9, b"\x12\x36", b"\x12\x34", true),
+        (b"\xFF\xFF", 15, b"\xFF\x7F", b"\xFF\x7F", true),
+        (b"\x12\x34", 16, b"\x12\x34", b"\x12\x34", false),
+        (b"\xFF\xFF", u32::MAX, b"\xFF\xFF", b"\xFF\xFF", false),
     ];
     for (before, k, changed, without, has_place) in cases {
-        let mut bits = before;
-        check_eq(toggle(&mut bits, k), has_place).note(format_args!("item {k} changed"))?;
-        check_eq(bits, changed).note(format_args!("item {k} changed"))?;
-        bits = before;
-        check_eq(clear(&mut bits, k), has_place).note(format_args!("item {k} taken out"))?;
-        check_eq(bits, without).note(format_args!("item {k} taken out"))?;
+        let mut bits = *before;
+        check_eq(toggle(&mut bits, k), has_place).note(k)?;
+        check_eq(bits, *changed).note(k)?;
+        bits = *before;
+        check_eq(clear(&mut bits, k), has_place).note(k)?;
+        check_eq(bits, *without).note(k)?;
     }
     Ok(())
 }
 
 #[test]
-fn every_byte_counts() -> Result<(), Fail> {
-    check_eq(weight(&[]), 0)?;
-    check_eq(weight(&[0x00, 0x00]), 0)?;
-    check_eq(weight(&[0x80, 0x00, 0x10]), 2)?;
-    check_eq(weight(&[0x01, 0x03, 0xFF]), 11)
-}
-
-#[derive(Drop)]
-struct Shape<'a> {
-    bits: &'a [u8],
-    items: u32,
-    fits: bool,
-    tidy: bool,
-}
-
-#[test]
-fn shapes_are_told() -> Result<(), Fail> {
-    let shapes = [
-        Shape {
-            bits: &[],
-            items: 0,
-            fits: true,
-            tidy: true,
-        },
-        Shape {
-            bits: &[0x00],
-            items: 0,
-            fits: false,
-            tidy: true,
-        },
-        Shape {
-            bits: &[0x07],
-            items: 3,
-            fits: true,
-            tidy: true,
-        },
-        Shape {
-            bits: &[0x08],
-            items: 3,
-            fits: true,
-            tidy: false,
-        },
-        Shape {
-            bits: &[0x80],
-            items: 7,
-            fits: true,
-            tidy: false,
-        },
-        Shape {
-            bits: &[0xFF],
-            items: 8,
-            fits: true,
-            tidy: true,
-        },
-        Shape {
-            bits: &[0xFF],
-            items: 9,
-            fits: false,
-            tidy: true,
-        },
-        Shape {
-            bits: &[0xFF, 0x00],
-            items: 8,
-            fits: false,
-            tidy: true,
-        },
-        Shape {
-            bits: &[0xFF, 0x01],
-            items: 9,
-            fits: true,
-            tidy: true,
-        },
-        Shape {
-            bits: &[0xFF, 0x02],
-            items: 9,
-            fits: true,
-            tidy: false,
-        },
-        Shape {
-            bits: &[0xFF, 0xFF],
-            items: 16,
-            fits: true,
-            tidy: true,
-        },
+fn shapes_and_weights_are_told() -> Result<(), Fail> {
+    // The bytes, their ones, so many items, whether the bytes are just theirs, and whether the unused bits are zero.
+    let cases: [(&[u8], u128, u32, bool, bool); 12] = [
+        (b"", 0, 0, true, true),
+        (b"\x00", 0, 0, false, true),
+        (b"\x07", 3, 3, true, true),
+        (b"\x08", 1, 3, true, false),
+        (b"\x80", 1, 7, true, false),
+        (b"\xFF", 8, 8, true, true),
+        (b"\xFF", 8, 9, false, true),
+        (b"\xFF\x00", 8, 8, false, true),
+        (b"\xFF\x01", 9, 9, true, true),
+        (b"\xFF\x02", 9, 9, true, false),
+        (b"\xFF\xFF", 16, 16, true, true),
+        (b"\x01\x03\xFF", 11, 24, true, true),
     ];
-    for shape in &shapes {
-        let items = shape.items;
-        check_eq(fits(shape.bits, items), shape.fits).note(format_args!("{items} items"))?;
-        check_eq(unused_are_zero(shape.bits, items), shape.tidy).note(format_args!(
-            "{items} items"
-        ))?;
+    for (i, (bits, ones, items, just, tidy)) in cases.iter().enumerate() {
+        check_eq(weight(*bits), *ones).note(format_args!("case {i}"))?;
+        check_eq(fits(*bits, *items), *just).note(format_args!("case {i}"))?;
+        check_eq(unused_are_zero(*bits, *items), *tidy).note(format_args!("case {i}"))?;
     }
     Ok(())
 }
@@ -152,23 +72,13 @@ fn shapes_are_told() -> Result<(), Fail> {
 #[test]
 fn hex_is_written_at_the_front() -> Result<(), Fail> {
     let mut longer = *b"......";
-    check_eq(
-        write_hex(&[0xA5, 0x0F], &mut longer).ok().ok_or("refused")?,
-        4,
-    )?;
+    check_eq(write_hex(b"\xA5\x0F", &mut longer).ok(), Some(4))?;
     check_eq(longer, *b"A50F..")?;
-
     let mut exact = *b"......";
-    check_eq(
-        write_hex(&[0x00, 0x9F, 0xFA], &mut exact)
-            .ok()
-            .ok_or("refused")?,
-        6,
-    )?;
+    check_eq(write_hex(b"\x00\x9F\xFA", &mut exact).ok(), Some(6))?;
     check_eq(exact, *b"009FFA")?;
-
     let mut short = *b"...";
-    let refusal = write_hex(&[0xA5, 0x0F], &mut short)
+    let refusal = write_hex(b"\xA5\x0F", &mut short)
         .err()
         .ok_or("not refused")?;
     check_eq(refusal.number(), 17)?;
