@@ -17,6 +17,13 @@ fn refused(heap: Global, file: &[u8]) -> Option<u8> {
     }
 }
 
+fn answers(heap: Global, files: &[(&[u8], Option<u8>)]) -> Result<(), Fail> {
+    for (i, (file, number)) in files.iter().enumerate() {
+        check_eq(refused(heap, *file), *number).note(format_args!("file {i}"))?;
+    }
+    Ok(())
+}
+
 #[test]
 fn the_example_is_told(rt: LibcRuntime) -> Result<(), Fail> {
     let graph = read_graph(rt.alloc(), EXAMPLE).ok().ok_or("refused")?;
@@ -38,8 +45,8 @@ fn each_cut_of_the_example_is_refused(rt: LibcRuntime) -> Result<(), Fail> {
 }
 
 #[test]
-fn questions_are_asked_in_order(rt: LibcRuntime) -> Result<(), Fail> {
-    let files: [(&[u8], Option<u8>); 28] = [
+fn heads_are_asked_in_order(rt: LibcRuntime) -> Result<(), Fail> {
+    let files: [(&[u8], Option<u8>); 12] = [
         (EXAMPLE, None),
         // a head that is cut short, whatever its mark
         (b"\x00\x00\x00\x00\x00\x00\x00\x00", Some(1)),
@@ -56,6 +63,13 @@ fn questions_are_asked_in_order(rt: LibcRuntime) -> Result<(), Fail> {
         (b"TAN\x00\x01\x00\x03\x01\x02\x03\x06", Some(4)),
         (b"TAN\x00\x01\x00\x00\x00\x02\x03\x06", Some(4)),
         (b"TAN\x00\x01\x00\x03\x00\x00\x03\x06", Some(4)),
+    ];
+    answers(rt.alloc(), &files)
+}
+
+#[test]
+fn rows_are_asked_in_order(rt: LibcRuntime) -> Result<(), Fail> {
+    let files: [(&[u8], Option<u8>); 16] = [
         // a byte too many, a byte too few, and a wrong length before an unused bit
         (b"TAN\x00\x01\x00\x03\x00\x02\x03\x06\x00", Some(5)),
         (b"TAN\x00\x01\x00\x09\x00\x02\x03\x00\x06", Some(5)),
@@ -90,10 +104,7 @@ fn questions_are_asked_in_order(rt: LibcRuntime) -> Result<(), Fail> {
             Some(7),
         ),
     ];
-    for (i, (file, number)) in files.iter().enumerate() {
-        check_eq(refused(rt.alloc(), *file), *number).note(format_args!("file {i}"))?;
-    }
-    Ok(())
+    answers(rt.alloc(), &files)
 }
 
 #[test]

@@ -61,7 +61,7 @@ fn checks_tell<G: Graph>(graph: &G, of_checks: &[&[u32]]) -> Result<(), Fail> {
     check(graph.check_degree(CheckNode(u32::MAX)).is_none())
 }
 
-pub fn tells<G: Graph>(graph: &G, edges: &Edges<'_>) -> Result<(), Fail> {
+pub(crate) fn tells<G: Graph>(graph: &G, edges: &Edges<'_>) -> Result<(), Fail> {
     variables_tell(graph, edges.of_variables)?;
     checks_tell(graph, edges.of_checks)
 }
