@@ -2,6 +2,7 @@
 use mathlib.Core.Path.{_≡_, refl, sym, ap, _∙_}
 use mathlib.Core.List.{List, [], _∷_, map}
 use mathlib.Core.Bool.{true}
+use mathlib.Core.Logic.{⊎-elim}
 use Prim.Native.Nat.{ℕ, zero, suc, _<_, _≤_}
 use native.Mathlib.Omega.{arith}
 use denote.Ref.{RefT, now}
@@ -17,7 +18,7 @@ use Rattle.std.specs.declared.option.Option.{Option}
 use Rattle.std.specs.declared.option.Option.the-variants.{Some, None}
 use Rattle.std.proofs.shelf.Lists.{length-map, getD-map}
 use Rattle.std.proofs.shelf.Maps.{nth-getD, nth-past}
-use Rattle.std.proofs.shelf.Tests.{lt-ltb, le-ltb, cond-true, cond-false, eq-eqb, or-left, or-right}
+use Rattle.std.proofs.shelf.Tests.{cases-lt, lt-ltb, le-ltb, cond-true, cond-false, eq-eqb, or-left, or-right}
 use Rattle.patterns.specs.Sets.{has}
 use Rattle.matrices.specs.Relations.{size-at, neighbour, listed}
 
@@ -54,6 +55,14 @@ nth-ended : (xs : List ℕ) (k : ℕ) → None ≡ nth xs k → length xs ≤ k
 nth-ended [] k e = omega arith
 nth-ended (x ∷ xs) zero e = let z : _≡_ {A = ℕ} 0 1 = cc in absurd (omega arith)
 nth-ended (x ∷ xs) (suc k) e = omega (arith, nth-ended xs k e)
+
+-- a node whose size is told is one of the nodes
+pub size-within : (m : ℕ) (of-row : ℕ → List ℕ) (u s : ℕ) → Some s ≡ size-at m of-row u → u < m
+size-within m of-row u s e =
+    ⊎-elim
+    (λ l. l)
+    (λ l. let none = cond-false (ltb u m) (Some (length (of-row u))) None (le-ltb u m l) in let z : _≡_ {A = ℕ} 0 1 = cc in absurd (omega arith))
+    (cases-lt u m)
 
 module _ (m : ℕ) (of-row : ℕ → List ℕ) (u k : ℕ) (within : u < m) where
   at-row : neighbour m of-row u k ≡ nth (of-row u) k

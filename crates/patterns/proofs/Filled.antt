@@ -1,5 +1,5 @@
 -- A pattern that is filled item by item, in rising order. Assumes nothing.
-use mathlib.Core.Path.{_≡_, sym, ap, ap₂, _∙_}
+use mathlib.Core.Path.{_≡_, refl, sym, ap, ap₂, _∙_}
 use mathlib.Core.List.{List}
 use mathlib.Core.Bool.{true, false, _&&_}
 use mathlib.Core.Logic.{⊎-elim}
@@ -22,6 +22,10 @@ front u s k = ltb k u && s k
 pub filled-none : (c : ℕ) (s : Set) → replicate (width c) 0 ≡ pattern c (front 0 s)
 filled-none c s =
     added-none c (replicate (width c) 0) (front 0 s) (λ k. ap (λ b. b && s k) (le-ltb k 0 (omega arith))) ∙ added-to-none c (front 0 s)
+
+-- cleared bytes are the empty set
+pub filled-nothing : (c : ℕ) → replicate (width c) 0 ≡ pattern c (λ _. false)
+filled-nothing c = added-none c (replicate (width c) 0) (λ _. false) (λ k. refl) ∙ added-to-none c (λ _. false)
 
 front-more : (u k : ℕ) (s : Set) → s u ≡ true → (front u s k ⊕ eqb u k) ≡ front (u + 1) s k
 front-more u k s on =

@@ -1,4 +1,4 @@
 // Product codes.
-pub mod pairs;
+mod pairs;
 pub mod product;
-pub mod sides;
+mod sides;
