@@ -178,6 +178,7 @@ fn overlaps_are_even<C: Code>(code: &C) -> Result<(), Fail> {
 
 pub(crate) fn tells<C: Code>(code: &C, expected: Holds<'_>) -> Result<(), Fail> {
     check_eq(code.kind_letter(), expected.letter)?;
+    check_eq(C::LETTER, expected.letter)?;
     check_eq(code.qubits(), expected.qubits)?;
     rows_tell(&ByCheck { code }, expected.qubits, expected.checks)?;
     rows_tell(&ByGenerator { code }, expected.qubits, expected.generators)?;
