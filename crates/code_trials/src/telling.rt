@@ -15,82 +15,60 @@ pub struct Holds<'a> {
     pub generators: &'a [&'a [u32]],
 }
 
-// The checks, or the generators, of a code: one trial is run on both.
-trait Rows {
-    fn count(&self) -> u32;
-
-    fn size(&self, u: u32) -> Option<u32>;
-
-    fn qubit(&self, u: u32, k: u32) -> Option<u32>;
-
-    fn rows_of(&self, v: u32) -> Option<u32>;
-
-    fn row_of(&self, v: u32, k: u32) -> Option<u32>;
+// The rows of a code are its checks or its generators: one trial is run on both.
+#[derive(Clone, Copy)]
+enum Rows {
+    Checks,
+    Generators,
 }
 
-#[derive_where(Clone, Copy)]
-struct ByCheck<'a, C> {
-    code: &'a C,
-}
-
-impl<'a, C: Code> Rows for ByCheck<'a, C> as CheckRows {
-    fn count(&self) -> u32 {
-        self.code.checks()
-    }
-
-    fn size(&self, u: u32) -> Option<u32> {
-        self.code.check_size(Check(u))
-    }
-
-    fn qubit(&self, u: u32, k: u32) -> Option<u32> {
-        let Qubit(v) = self.code.check_qubit(Check(u), k)?;
-        Some(v)
-    }
-
-    fn rows_of(&self, v: u32) -> Option<u32> {
-        self.code.checks_of(Qubit(v))
-    }
-
-    fn row_of(&self, v: u32, k: u32) -> Option<u32> {
-        let Check(u) = self.code.qubit_check(Qubit(v), k)?;
-        Some(u)
+fn count<C: Code>(code: &C, rows: Rows) -> u32 {
+    match rows {
+        Rows::Checks => code.checks(),
+        Rows::Generators => code.generators(),
     }
 }
 
-#[derive_where(Clone, Copy)]
-struct ByGenerator<'a, C> {
-    code: &'a C,
+fn size<C: Code>(code: &C, rows: Rows, u: u32) -> Option<u32> {
+    match rows {
+        Rows::Checks => code.check_size(Check(u)),
+        Rows::Generators => code.generator_size(Generator(u)),
+    }
 }
 
-impl<'a, C: Code> Rows for ByGenerator<'a, C> as GeneratorRows {
-    fn count(&self) -> u32 {
-        self.code.generators()
+fn rows_of<C: Code>(code: &C, rows: Rows, v: u32) -> Option<u32> {
+    match rows {
+        Rows::Checks => code.checks_of(Qubit(v)),
+        Rows::Generators => code.generators_of(Qubit(v)),
     }
+}
 
-    fn size(&self, u: u32) -> Option<u32> {
-        self.code.generator_size(Generator(u))
-    }
+fn qubit<C: Code>(code: &C, rows: Rows, u: u32, k: u32) -> Option<u32> {
+    let Qubit(v) = match rows {
+        Rows::Checks => code.check_qubit(Check(u), k)?,
+        Rows::Generators => code.generator_qubit(Generator(u), k)?,
+    };
+    Some(v)
+}
 
-    fn qubit(&self, u: u32, k: u32) -> Option<u32> {
-        let Qubit(v) = self.code.generator_qubit(Generator(u), k)?;
-        Some(v)
-    }
-
-    fn rows_of(&self, v: u32) -> Option<u32> {
-        self.code.generators_of(Qubit(v))
-    }
-
-    fn row_of(&self, v: u32, k: u32) -> Option<u32> {
-        let Generator(g) = self.code.qubit_generator(Qubit(v), k)?;
-        Some(g)
+fn row_of<C: Code>(code: &C, rows: Rows, v: u32, k: u32) -> Option<u32> {
+    match rows {
+        Rows::Checks => {
+            let Check(u) = code.qubit_check(Qubit(v), k)?;
+            Some(u)
+        }
+        Rows::Generators => {
+            let Generator(g) = code.qubit_generator(Qubit(v), k)?;
+            Some(g)
+        }
     }
 }
 
 // How often row u tells the qubit v.
-fn times_told<R: Rows>(rows: &R, u: u32, v: u32) -> u32 {
+fn times_told<C: Code>(code: &C, rows: Rows, u: u32, v: u32) -> u32 {
     let mut times: u32 = 0;
     for k in 0..MOST_WEIGHT {
-        if rows.qubit(u, k) == Some(v) {
+        if qubit(code, rows, u, k) == Some(v) {
             times = times.saturating_add(1);
         }
     }
@@ -98,10 +76,10 @@ fn times_told<R: Rows>(rows: &R, u: u32, v: u32) -> u32 {
 }
 
 // How often the qubit v tells row u.
-fn times_told_back<R: Rows>(rows: &R, u: u32, v: u32) -> u32 {
+fn times_told_back<C: Code>(code: &C, rows: Rows, u: u32, v: u32) -> u32 {
     let mut times: u32 = 0;
     for k in 0..MOST_WEIGHT {
-        if rows.row_of(v, k) == Some(u) {
+        if row_of(code, rows, v, k) == Some(u) {
             times = times.saturating_add(1);
         }
     }
@@ -110,52 +88,53 @@ fn times_told_back<R: Rows>(rows: &R, u: u32, v: u32) -> u32 {
 
 // How many of the rows have the qubit v.
 fn rows_with(expected: &[&[u32]], v: u32) -> u32 {
-    let mut count: u32 = 0;
+    let mut times: u32 = 0;
     for row in expected {
         if row.contains(&v) {
-            count = count.saturating_add(1);
+            times = times.saturating_add(1);
         }
     }
-    count
+    times
 }
 
 // A code tells nothing of rows and qubits that it has not, nor past the last of a row or a qubit.
-fn ends_tell_nothing<R: Rows>(rows: &R, qubits: u32) -> Result<(), Fail> {
-    for u in [rows.count(), u32::MAX] {
-        check_eq(rows.size(u), None)?;
-        check_eq(rows.qubit(u, 0), None)?;
+fn ends_tell_nothing<C: Code>(code: &C, rows: Rows) -> Result<(), Fail> {
+    for u in [count(code, rows), u32::MAX] {
+        check_eq(size(code, rows, u), None)?;
+        check_eq(qubit(code, rows, u, 0), None)?;
     }
-    for v in [qubits, u32::MAX] {
-        check_eq(rows.rows_of(v), None)?;
-        check_eq(rows.row_of(v, 0), None)?;
+    for v in [code.qubits(), u32::MAX] {
+        check_eq(rows_of(code, rows, v), None)?;
+        check_eq(row_of(code, rows, v, 0), None)?;
     }
-    for u in 0..rows.count() {
-        let size = rows.size(u).ok_or("no size")?;
-        check_eq(rows.qubit(u, size), None).note(u)?;
-        check_eq(rows.qubit(u, u32::MAX), None).note(u)?;
+    for u in 0..count(code, rows) {
+        let last = size(code, rows, u).ok_or("no size")?;
+        check_eq(qubit(code, rows, u, last), None).note(u)?;
+        check_eq(qubit(code, rows, u, u32::MAX), None).note(u)?;
     }
-    for v in 0..qubits {
-        let size = rows.rows_of(v).ok_or("no size")?;
-        check_eq(rows.row_of(v, size), None).note(v)?;
-        check_eq(rows.row_of(v, u32::MAX), None).note(v)?;
+    for v in 0..code.qubits() {
+        let last = rows_of(code, rows, v).ok_or("no size")?;
+        check_eq(row_of(code, rows, v, last), None).note(v)?;
+        check_eq(row_of(code, rows, v, u32::MAX), None).note(v)?;
     }
     Ok(())
 }
 
-fn rows_tell<R: Rows>(rows: &R, qubits: u32, expected: &[&[u32]]) -> Result<(), Fail> {
-    check_eq(rows.count() as usize, expected.len())?;
-    for (u, row) in (0..rows.count()).zip(expected.iter()) {
-        check_eq(rows.size(u).ok_or("no size")? as usize, row.len()).note(u)?;
-        for v in 0..qubits {
+fn rows_tell<C: Code>(code: &C, rows: Rows, expected: &[&[u32]]) -> Result<(), Fail> {
+    check_eq(count(code, rows) as usize, expected.len())?;
+    for (u, row) in (0..count(code, rows)).zip(expected.iter()) {
+        let told = size(code, rows, u).ok_or("no size")?;
+        check_eq(told as usize, row.len()).note(u)?;
+        for v in 0..code.qubits() {
             let times = if row.contains(&v) { 1 } else { 0 };
-            check_eq(times_told(rows, u, v), times).note(format_args!("{u} and {v}"))?;
-            check_eq(times_told_back(rows, u, v), times).note(format_args!("{v} and {u}"))?;
+            check_eq(times_told(code, rows, u, v), times).note(format_args!("{u} and {v}"))?;
+            check_eq(times_told_back(code, rows, u, v), times).note(format_args!("{v} and {u}"))?;
         }
     }
-    for v in 0..qubits {
-        check_eq(rows.rows_of(v), Some(rows_with(expected, v))).note(v)?;
+    for v in 0..code.qubits() {
+        check_eq(rows_of(code, rows, v), Some(rows_with(expected, v))).note(v)?;
     }
-    ends_tell_nothing(rows, qubits)
+    ends_tell_nothing(code, rows)
 }
 
 // Each check shares an even number of qubits with each generator, as the code tells them.
@@ -164,8 +143,8 @@ fn overlaps_are_even<C: Code>(code: &C) -> Result<(), Fail> {
         for g in 0..code.generators() {
             let mut even = true;
             for v in 0..code.qubits() {
-                if times_told(&ByCheck { code }, u, v) == 1
-                    && times_told(&ByGenerator { code }, g, v) == 1
+                if times_told(code, Rows::Checks, u, v) == 1
+                    && times_told(code, Rows::Generators, g, v) == 1
                 {
                     even = !even;
                 }
@@ -180,7 +159,7 @@ pub(crate) fn tells<C: Code>(code: &C, expected: Holds<'_>) -> Result<(), Fail> 
     check_eq(code.kind_letter(), expected.letter)?;
     check_eq(C::LETTER, expected.letter)?;
     check_eq(code.qubits(), expected.qubits)?;
-    rows_tell(&ByCheck { code }, expected.qubits, expected.checks)?;
-    rows_tell(&ByGenerator { code }, expected.qubits, expected.generators)?;
+    rows_tell(code, Rows::Checks, expected.checks)?;
+    rows_tell(code, Rows::Generators, expected.generators)?;
     overlaps_are_even(code)
 }

@@ -59,7 +59,7 @@ fn counts_and_lengths_are_asked_first(rt: LibcRuntime) -> Result<(), Fail> {
         (2, 1, b"\x03", 1, b"\x03\x00", Some(5)),
         (9, 1, b"\x03", 1, b"\x03\x00", Some(5)),
         (2, 2, b"\x03", 1, b"\x03", Some(5)),
-        // a wrong length of the generators before an unused bit of the checks, and before an odd overlap
+        // a wrong length before an unused bit, and before an odd overlap
         (2, 1, b"\xFF", 1, b"", Some(5)),
         (2, 1, b"\xFF\xFF", 1, b"\x03", Some(5)),
         (2, 1, b"\x01", 1, b"\x01\x00", Some(5)),
@@ -67,9 +67,13 @@ fn counts_and_lengths_are_asked_first(rt: LibcRuntime) -> Result<(), Fail> {
     answers(rt.alloc(), &cases)
 }
 
+// Twelve rows of twelve ones.
+const FULL: &[u8; 24] =
+    b"\xFF\x0F\xFF\x0F\xFF\x0F\xFF\x0F\xFF\x0F\xFF\x0F\xFF\x0F\xFF\x0F\xFF\x0F\xFF\x0F\xFF\x0F\xFF\x0F";
+
 #[test]
-fn rows_are_asked_in_order(rt: LibcRuntime) -> Result<(), Fail> {
-    let cases: [Asked<'_>; 33] = [
+fn unused_bits_and_weights_are_asked_next(rt: LibcRuntime) -> Result<(), Fail> {
+    let cases: [Asked<'_>; 19] = [
         // an unused bit of either, of the last row, and of a second byte
         (2, 1, b"\x07", 1, b"\x03", Some(6)),
         (2, 1, b"\x03", 1, b"\x83", Some(6)),
@@ -95,6 +99,13 @@ fn rows_are_asked_in_order(rt: LibcRuntime) -> Result<(), Fail> {
         (13, 1, b"\xFF\x1F", 1, b"\xFF\x1F", Some(7)),
         (13, 1, b"\x01\x00", 1, b"\xFF\x1F", Some(7)),
         (1, 13, &[1; 13], 1, b"\x01", Some(7)),
+    ];
+    answers(rt.alloc(), &cases)
+}
+
+#[test]
+fn overlaps_are_asked_last(rt: LibcRuntime) -> Result<(), Fail> {
+    let cases: [Asked<'_>; 14] = [
         // one, three, two and four shared qubits
         (1, 1, b"\x01", 1, b"\x01", Some(9)),
         (2, 1, b"\x01", 1, b"\x01", Some(9)),
@@ -115,10 +126,6 @@ fn rows_are_asked_in_order(rt: LibcRuntime) -> Result<(), Fail> {
     ];
     answers(rt.alloc(), &cases)
 }
-
-// Twelve rows of twelve ones.
-const FULL: &[u8; 24] =
-    b"\xFF\x0F\xFF\x0F\xFF\x0F\xFF\x0F\xFF\x0F\xFF\x0F\xFF\x0F\xFF\x0F\xFF\x0F\xFF\x0F\xFF\x0F\xFF\x0F";
 
 #[test]
 fn rows_are_told_from_both_sides(rt: LibcRuntime) -> Result<(), Fail> {
