@@ -15,10 +15,10 @@ use std::alloc::Global;
 use std::test::*;
 
 // The remaining checks, the open qubits and the correction; the call, and the number of its refusal.
-fn refuses<C: Code>(
+fn refuses<'x, C: Code>(
     heap: Global,
     code: &C,
-    cases: &[(&[u8], &[u8], &[u8], Call<'_>, u8)],
+    cases: &[(&'x [u8], &'x [u8], &'x [u8], Call<'x>, u8)],
 ) -> Result<(), Fail> {
     for (i, (remaining, opened, correction, call, number)) in cases.iter().enumerate() {
         let state = State {
