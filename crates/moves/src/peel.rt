@@ -3,6 +3,7 @@ ghost use mathlib.Core.Path.{_≡_};
 ghost use Rattle.moves.specs.Moves.{peel-of};
 ghost use Rattle.moves.specs.Held.{model, by-number};
 use crate::job::Job;
+use crate::job::one_more;
 use crate::scans::toggle_checks;
 use codes::code::Check;
 use codes::code::Code;
@@ -28,7 +29,7 @@ impl<'a> Job<'a> {
             toggle_checks(code, self.remaining, v);
         }
         toggle(self.opened, v.0);
-        self.moves = self.moves.saturating_add(1);
+        self.moves = one_more(self.moves);
         Ok((v, u8::from(changes)))
     }
 }

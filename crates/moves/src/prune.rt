@@ -3,6 +3,7 @@ ghost use mathlib.Core.Path.{_≡_};
 ghost use Rattle.moves.specs.Moves.{prune-of};
 ghost use Rattle.moves.specs.Held.{model};
 use crate::job::Job;
+use crate::job::one_more;
 use crate::scans::holds;
 use codes::code::Code;
 use codes::code::Generator;
@@ -29,7 +30,7 @@ impl<'a> Job<'a> {
             return Err(Refusal::NotAllOpen);
         }
         toggle(self.opened, v.0);
-        self.moves = self.moves.saturating_add(1);
+        self.moves = one_more(self.moves);
         Ok(())
     }
 }

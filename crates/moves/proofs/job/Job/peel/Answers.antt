@@ -52,6 +52,6 @@ returns g c =
       | then-changes w ↦ ap model (w .self-is) ∙ model-same (w .toggle-checks .ensures) refl (w .toggle .ensures .after) refl ∙ sym (ap (half-way l m v) (w .if-changes .taken))
       | else-changes w ↦ ap model (w .self-is) ∙ sym (ap (half-way l m v) (w .if-changes .left))
     ] in
-    let after = peel-made l sound m u v within only (lengths-asked l m yes) changes (c .remains-changes .ensures) (model (c .if-changes .self)) was (c .toggle-2 .last .bits) (c .toggle-2 .ensures .after) (c .saturating-add-self .result) (c .saturating-add-self .ensures) in
+    let after = peel-made l sound m u v within only (lengths-asked l m yes) changes (c .remains-changes .ensures) (model (c .if-changes .self)) was (c .toggle-2 .last .bits) (c .toggle-2 .ensures .after) (c .one-more-self .result) (c .one-more-self .ensures) in
     ap₂ (λ x j. (Ok (v, x), j)) (c .from .ensures ∙ bit-byte changes ∙ ap (λ b. cond b 1 0) (c .remains-changes .ensures)) after
     ∙ peel-accepted l sound m u v within only yes

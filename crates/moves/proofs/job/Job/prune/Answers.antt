@@ -34,4 +34,4 @@ returns g c =
     let v-within = size-within (l .qubits) (l .checks-of) v (c .in-Some-checks-of .-checks) (c .in-Some-checks-of .ensures tt) in
     let held = sym (c .if-not-holds .ensures tt) in
     let all-open = sym (c .if-not-all-open .ensures tt) in
-    prune-made l m a v g-within v-within yes held all-open (c .toggle .last .bits) (c .toggle .ensures .after) (c .saturating-add-self .result) (c .saturating-add-self .ensures)
+    prune-made l m a v g-within v-within yes held all-open (c .toggle .last .bits) (c .toggle .ensures .after) (c .one-more-self .result) (c .one-more-self .ensures)
