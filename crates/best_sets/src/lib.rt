@@ -1,5 +1,6 @@
 // The best of the sets of a few qubits. A qubit is a row of three words, whose ones are the checks that change with the qubit.
 // The words that a set leaves are those at the start with its rows added, and its weight is how many ones are left.
+#![tactic(auto)]
 ghost use Rattle.std.specs.Prelude.{◌≡◌, ◌+◌, ◌*◌, ◌^◌, ◌<◌, ◌≤◌, [], ◌∷◌, length, if◌then◌else◌};
 ghost use Rattle.best_sets.specs.Best.{BestIsUnbeaten};
 ghost use Rattle.best_sets.specs.Walk.{changed_by, weighed, wins, walked, walk_of};

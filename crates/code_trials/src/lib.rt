@@ -1,4 +1,5 @@
 // Trials of codes, products and syndromes on examples. Every expected value was worked out by hand.
+#![tactic(auto)]
 #[cfg(test)]
 mod product_trials;
 #[cfg(test)]

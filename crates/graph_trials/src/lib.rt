@@ -1,4 +1,5 @@
 // Trials of patterns, graphs and graph files on examples. Every expected value was worked out by hand.
+#![tactic(auto)]
 #[cfg(test)]
 mod cyclic_trials;
 #[cfg(test)]

@@ -1,4 +1,5 @@
 // Trials of jobs and their moves on examples. Every expected value was worked out by hand.
+#![tactic(auto)]
 #[cfg(test)]
 mod flipping_trials;
 #[cfg(test)]

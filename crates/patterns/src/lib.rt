@@ -1,4 +1,6 @@
 // Sets of numbered items as bits in bytes.
+#![tactic(auto)]
+
 pub mod hex;
 pub mod items;
 pub mod shapes;

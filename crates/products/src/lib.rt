@@ -1,4 +1,5 @@
 // Product codes.
+#![tactic(auto)]
 mod pairs;
 pub mod product;
 mod sides;

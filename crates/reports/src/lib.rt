@@ -1,4 +1,5 @@
 // Reports: the five lines of a decoded job, and the line of a refused one.
+#![tactic(auto)]
 mod pieces;
 pub mod refusal_line;
 pub mod report;

@@ -1,4 +1,5 @@
 // Syndromes over any code.
+#![tactic(auto)]
 ghost use Rattle.std.specs.Prelude.{◌≡◌, ◌<◌};
 ghost use Rattle.refusals.specs.Questions.{first_no, answer, where_accepted};
 ghost use Rattle.patterns.specs.Patterns.{member};

@@ -1,4 +1,5 @@
 // Codes whose neighbours are written into flat tables.
+#![tactic(auto)]
 mod families;
 mod filling;
 mod making;

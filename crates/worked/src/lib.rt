@@ -1,4 +1,5 @@
 // Worked examples: small graphs, their product codes and jobs on them, each with what comes out.
+#![tactic(auto)]
 ghost use Rattle.std.specs.Prelude.{◌≡◌, length};
 ghost use Rattle.worked.specs.Examples.{examples, All-hold};
 

@@ -1,5 +1,5 @@
 use Rattle.std.proofs.Common.{length}
 use Rattle.best_sets.proofs.+best_from.Given as goal
 
-abbrev pub decreases-best-from : goal.decreases-best-from
-decreases-best-from l = length l.rows.now
+abbrev pub decreases-best_from : goal.decreases-best_from
+decreases-best_from l = length l.rows.now

@@ -3,8 +3,8 @@ use Rattle.best_sets.proofs.Laws.{best_is_unbeaten}
 use Rattle.best_sets.proofs.Steps.{room_at_start, walk_within, walk_beyond}
 use Rattle.best_sets.proofs.best_choice.Goals as goal
 
-pub best-from-requires : goal.best-from-requires
-best-from-requires c = (omega arith, room_at_start (length c.args.rows.now) (omega arith))
+pub best_from-requires : goal.best_from-requires
+best_from-requires c = (omega arith, room_at_start (length c.args.rows.now) (omega arith))
 
 pub returns-then-rows-gt-MOST-ROWS : goal.returns-then-rows-gt-MOST-ROWS
 returns-then-rows-gt-MOST-ROWS c = record {
@@ -14,6 +14,6 @@ returns-then-rows-gt-MOST-ROWS c = record {
 
 pub returns : goal.returns
 returns c = record {
-  value = walk_within c.args.rows.now c.args.start c.weigh.result c.best-from.result (omega arith) c.weigh.ensures c.best-from.ensures;
+  value = walk_within c.args.rows.now c.args.start c.weigh.result c.best_from.result (omega arith) c.weigh.ensures c.best_from.ensures;
   best = best_is_unbeaten;
 }

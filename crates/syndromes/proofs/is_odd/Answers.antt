@@ -28,9 +28,9 @@ returns-after-loop-k g c =
     let s = member c.args.set.now in
     odd_all s (l.of_check u) c.loop-k.k c.loop-k.odd (parity s (l.of_check u)) (omega (arith, (g.met.C.Code.sound c.args.code.now).by_check.row_few u c.requires)) c.loop-k.invariant
 
-pub returns-in-default : goal.returns-in-default
-returns-in-default g c =
+pub returns-in_default : goal.returns-in_default
+returns-in_default g c =
     let l = g.C.Code.layout c.args.code.now in
     let u = c.args.u.0 in
     let s = member c.args.set.now in
-    odd_all s (l.of_check u) c.loop-k.k c.loop-k.odd (parity s (l.of_check u)) (ended_at l.checks l.of_check u c.loop-k.k c.requires c.in-default.ensures) c.loop-k.invariant
+    odd_all s (l.of_check u) c.loop-k.k c.loop-k.odd (parity s (l.of_check u)) (ended_at l.checks l.of_check u c.loop-k.k c.requires c.in_default.ensures) c.loop-k.invariant

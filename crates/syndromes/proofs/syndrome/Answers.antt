@@ -6,7 +6,7 @@ use Rattle.patterns.specs.Patterns.{width, member, fitting, tidy}
 use Rattle.patterns.proofs.Filled.{filled_none, filled_more, filled_skip, filled_all}
 use Rattle.syndromes.specs.Syndromes.{syndrome_of, syndrome_questions, syndrome_pattern}
 use Rattle.syndromes.proofs.syndrome.Goals as goal
-use Rattle.syndromes.proofs.syndrome.Goals.{then-is-odd, else-is-odd}
+use Rattle.syndromes.proofs.syndrome.Goals.{then-is_odd, else-is_odd}
 
 pub loop-u-init : goal.loop-u-init
 loop-u-init g c =
@@ -21,9 +21,9 @@ loop-u-preserved g c =
     let l = g.C.Code.layout c.args.code.now in
     let s = syndrome_of l (member c.args.set.now) in
     let u = c.loop-u.u in
-    elim c.if-is-odd.branch [
-      | then-is-odd w ↦ w.out-is ∙ w.toggle.ensures.after ∙ filled_more l.checks u s c.loop-u.out (omega arith) (sym c.is-odd.ensures ∙ w.if-is-odd.true) c.loop-u.invariant
-      | else-is-odd w ↦ w.out-is ∙ filled_skip l.checks u s c.loop-u.out (sym c.is-odd.ensures ∙ w.if-is-odd.false) c.loop-u.invariant
+    elim c.if-is_odd.branch [
+      | then-is_odd w ↦ w.out-is ∙ w.toggle.ensures.after ∙ filled_more l.checks u s c.loop-u.out (omega arith) (sym c.is_odd.ensures ∙ w.if-is_odd.true) c.loop-u.invariant
+      | else-is_odd w ↦ w.out-is ∙ filled_skip l.checks u s c.loop-u.out (sym c.is_odd.ensures ∙ w.if-is_odd.false) c.loop-u.invariant
     ]
 
 pub returns : goal.returns
@@ -35,7 +35,7 @@ returns g c =
     let lengths = and_from (fitting l.qubits set) (fitting l.checks out)
     (ap (λ q. fitting q set) (sym c.qubits.ensures) ∙ sym c.if-not-fits.ensures.value)
     (ap (λ q. fitting q out) (sym c.checks.ensures) ∙ sym c.if-not-fits-2.ensures.value) in
-    let bits = ap (λ q. tidy q set) (sym c.qubits-2.ensures) ∙ sym c.if-not-unused-are-zero.ensures in
+    let bits = ap (λ q. tidy q set) (sym c.qubits-2.ensures) ∙ sym c.if-not-unused_are_zero.ensures in
     let accepted : first_no (syndrome_questions l set out) ≡ None = none_from_yes (syndrome_questions l set out) (lengths, (bits, tt)) in
     let last : c.loop-u.u ≡ l.checks = omega arith in
     record {

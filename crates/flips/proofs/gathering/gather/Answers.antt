@@ -5,7 +5,7 @@ use Rattle.matrices.proofs.Lookups.{Found, found_at, ended_at}
 use Rattle.flips.specs.Local.{gathered, with_new}
 use Rattle.flips.proofs.Gathered.{gathered_more, new_listed, old_listed}
 use Rattle.flips.proofs.gathering.gather.Goals as goal
-use Rattle.flips.proofs.gathering.gather.Goals.{In-Some, then-not-is-listed, else-not-is-listed}
+use Rattle.flips.proofs.gathering.gather.Goals.{In-Some, then-not-is_listed, else-not-is_listed}
 use Rattle.flips.proofs.gathering.gather.Given.{Over}
 
 seen : (g : Over) (c : In-Some g) → Found ((g.C.Code.layout c.args.code.now).checks_of c.args.v.0) c.loop-k.k c.in-Some.u.0
@@ -14,17 +14,17 @@ seen g c = found_at (g.C.Code.layout c.args.code.now).qubits (g.C.Code.layout c.
 room : (g : Over) (c : In-Some g) → c.loop-k.n < 144
 room g c = omega (arith, c.loop-k-test.true, c.loop-k.invariant.1, c.requires.2)
 
-pub slice-bounds-is-listed-end : goal.slice-bounds-is-listed-end
-slice-bounds-is-listed-end g c = omega (arith, room g (goal.at.slice-bounds-is-listed-end g c).In-Some, c.loop-k.invariant.0)
+pub slice_bounds-is_listed-end : goal.slice_bounds-is_listed-end
+slice_bounds-is_listed-end g c = omega (arith, room g (goal.at.slice_bounds-is_listed-end g c).In-Some, c.loop-k.invariant.0)
 
-pub offset-bounds-checks-n : goal.offset-bounds-checks-n
-offset-bounds-checks-n g c = omega (arith, room g (goal.at.offset-bounds-checks-n g c).In-Some)
+pub offset_bounds-checks-n : goal.offset_bounds-checks-n
+offset_bounds-checks-n g c = omega (arith, room g (goal.at.offset_bounds-checks-n g c).In-Some)
 
 pub bounds-checks-n : goal.bounds-checks-n
 bounds-checks-n g c = omega (arith, room g (goal.at.bounds-checks-n g c).In-Some, c.loop-k.invariant.0)
 
-pub overflow-add-n : goal.overflow-add-n
-overflow-add-n g c = omega (arith, room g (goal.at.overflow-add-n g c).In-Some)
+pub overflow_add-n : goal.overflow_add-n
+overflow_add-n g c = omega (arith, room g (goal.at.overflow_add-n g c).In-Some)
 
 pub loop-k-preserved : goal.loop-k-preserved
 loop-k-preserved g c =
@@ -37,30 +37,30 @@ loop-k-preserved g c =
     let r = room g (goal.at.loop-k-preserved g c).In-Some in
     let whole : n - 0 ≡ n = omega arith in
     let next = gathered_more (take n xs) row (gathered (take c.args.count c.args.checks.now) row) k u s.here s.is c.loop-k.invariant.2 in
-    elim c.if-not-is-listed.branch [
-      | then-not-is-listed w ↦ (
+    elim c.if-not-is_listed.branch [
+      | then-not-is_listed w ↦ (
         ap length w.checks-is ∙ length-set xs n u ∙ c.loop-k.invariant.0,
         omega (arith, w.n-is, c.loop-k.invariant.1),
-        ap (λ m. gathered (take m c.if-not-is-listed.checks) (drop (k + 1) row)) w.n-is
+        ap (λ m. gathered (take m c.if-not-is_listed.checks) (drop (k + 1) row)) w.n-is
             ∙ ap (λ l. gathered (take (n + 1) l) (drop (k + 1) row)) w.checks-is
-            ∙ ap (λ l. gathered l (drop (k + 1) row)) (new_listed xs n u (omega (arith, c.loop-k.invariant.0)) (w.if-not-is-listed.ensures ∙ ap (λ m. has (take m xs) u) whole))
+            ∙ ap (λ l. gathered l (drop (k + 1) row)) (new_listed xs n u (omega (arith, c.loop-k.invariant.0)) (w.if-not-is_listed.ensures ∙ ap (λ m. has (take m xs) u) whole))
             ∙ next,
       )
-      | else-not-is-listed w ↦ (
+      | else-not-is_listed w ↦ (
         ap length w.checks-is ∙ c.loop-k.invariant.0,
         omega (arith, w.n-is, c.loop-k.invariant.1),
-        ap (λ m. gathered (take m c.if-not-is-listed.checks) (drop (k + 1) row)) w.n-is
+        ap (λ m. gathered (take m c.if-not-is_listed.checks) (drop (k + 1) row)) w.n-is
             ∙ ap (λ l. gathered (take n l) (drop (k + 1) row)) w.checks-is
-            ∙ ap (λ l. gathered l (drop (k + 1) row)) (old_listed (take n xs) u (w.if-not-is-listed.ensures ∙ ap (λ m. has (take m xs) u) whole))
+            ∙ ap (λ l. gathered l (drop (k + 1) row)) (old_listed (take n xs) u (w.if-not-is_listed.ensures ∙ ap (λ m. has (take m xs) u) whole))
             ∙ next,
       )
     ]
 
-pub shape-of-checks-after-loop-k : goal.shape-of-checks-after-loop-k
-shape-of-checks-after-loop-k g c = c.loop-k.invariant.0 ∙ sym c.requires.1
+pub shape-of_checks-after-loop-k : goal.shape-of_checks-after-loop-k
+shape-of_checks-after-loop-k g c = c.loop-k.invariant.0 ∙ sym c.requires.1
 
-pub shape-of-checks-in-default : goal.shape-of-checks-in-default
-shape-of-checks-in-default g c = c.loop-k.invariant.0 ∙ sym c.requires.1
+pub shape-of_checks-in_default : goal.shape-of_checks-in_default
+shape-of_checks-in_default g c = c.loop-k.invariant.0 ∙ sym c.requires.1
 
 pub returns-after-loop-k : goal.returns-after-loop-k
 returns-after-loop-k g c =
@@ -71,10 +71,10 @@ returns-after-loop-k g c =
       few = omega (arith, c.loop-k.invariant.1);
     }
 
-pub returns-in-default : goal.returns-in-default
-returns-in-default g c =
+pub returns-in_default : goal.returns-in_default
+returns-in_default g c =
     let l = g.C.Code.layout c.args.code.now in
-    let end = ended_at l.qubits l.checks_of c.args.v.0 c.loop-k.k c.requires.0 c.in-default.ensures in
+    let end = ended_at l.qubits l.checks_of c.args.v.0 c.loop-k.k c.requires.0 c.in_default.ensures in
     record {
       is = sym (at_drop_all (gathered (take c.loop-k.n c.loop-k.checks)) (l.checks_of c.args.v.0) c.loop-k.k end) ∙ c.loop-k.invariant.2;
       few = omega (arith, c.loop-k.invariant.1);

@@ -7,7 +7,7 @@ use Rattle.flips.specs.Local.{Marks, marked}
 use Rattle.flips.proofs.Marked.{marks_same, marks_none, marks_toggled}
 use Rattle.flips.proofs.Gathered.{has_next}
 use Rattle.flips.proofs.marks.row.Goals as goal
-use Rattle.flips.proofs.marks.row.Goals.{In-Some, in-Some-place, in-default-place}
+use Rattle.flips.proofs.marks.row.Goals.{In-Some, in-Some-place, in_default-place}
 use Rattle.flips.proofs.marks.row.Given.{Over}
 
 seen : (g : Over) (c : In-Some g) → Found ((g.C.Code.layout c.args.code.now).checks_of c.args.v.0) c.loop-k.k c.in-Some.u.0
@@ -33,10 +33,10 @@ loop-k-preserved g c =
           subst M (sym (w.words-is ∙ w.mark.ensures))
           (marks_same ds (λ x. p x ⊕ eqb u x) (has (take (k + 1) row)) (marked c.loop-k.words w.in-Some-place.j) (λ x h. sym (has_next row k u x apart s.here s.is))
           (marks_toggled ds p c.loop-k.words w.in-Some-place.j u c.requires.2 c.requires.1 at.0 at.1 c.loop-k.invariant))
-      | in-default-place w ↦
+      | in_default-place w ↦
           subst M (sym w.words-is)
           (marks_same ds p (has (take (k + 1) row)) c.loop-k.words
-          (λ x h. sym (has_next row k u x apart s.here s.is ∙ ap (λ b. p x ⊕ b) (ne_eqb u x (λ e. both_ways (has ds x) (ap (has ds) (sym e) ∙ w.in-default-place.ensures) h)) ∙ plus_zero (p x)))
+          (λ x h. sym (has_next row k u x apart s.here s.is ∙ ap (λ b. p x ⊕ b) (ne_eqb u x (λ e. both_ways (has ds x) (ap (has ds) (sym e) ∙ w.in_default-place.ensures) h)) ∙ plus_zero (p x)))
           c.loop-k.invariant)
     ]
 
@@ -46,8 +46,8 @@ returns-after-loop-k g c =
     let end = (g.met.C.Code.sound c.args.code.now).by_check.column_few c.args.v.0 c.requires.0 in
     subst (λ l. Marks c.args.checks.now (has l) c.loop-k.words) (take_all c.loop-k.k row (omega (arith, end))) c.loop-k.invariant
 
-pub returns-in-default : goal.returns-in-default
-returns-in-default g c =
+pub returns-in_default : goal.returns-in_default
+returns-in_default g c =
     let l = g.C.Code.layout c.args.code.now in
-    let end = ended_at l.qubits l.checks_of c.args.v.0 c.loop-k.k c.requires.0 c.in-default.ensures in
+    let end = ended_at l.qubits l.checks_of c.args.v.0 c.loop-k.k c.requires.0 c.in_default.ensures in
     subst (λ l. Marks c.args.checks.now (has l) c.loop-k.words) (take_all c.loop-k.k (l.checks_of c.args.v.0) end) c.loop-k.invariant

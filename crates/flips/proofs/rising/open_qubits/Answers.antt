@@ -16,8 +16,8 @@ seen g c = found_at (g.C.Code.layout c.args.code.now).generators (g.C.Code.layou
 pub insert-requires : goal.insert-requires
 insert-requires g c = (c.loop-k.invariant.0, omega (arith, c.loop-k-test.true, c.loop-k.invariant.1))
 
-pub overflow-add-n : goal.overflow-add-n
-overflow-add-n g c = omega (arith, c.loop-k-test.true, c.loop-k.invariant.1)
+pub overflow_add-n : goal.overflow_add-n
+overflow_add-n g c = omega (arith, c.loop-k-test.true, c.loop-k.invariant.1)
 
 pub loop-k-preserved : goal.loop-k-preserved
 loop-k-preserved g c =
@@ -57,11 +57,11 @@ returns-after-loop-k g c =
       few = omega (arith, c.loop-k.invariant.1);
     }
 
-pub returns-in-default : goal.returns-in-default
-returns-in-default g c =
+pub returns-in_default : goal.returns-in_default
+returns-in_default g c =
     let l = g.C.Code.layout c.args.code.now in
     let sound = g.met.C.Code.sound c.args.code.now in
-    let end = ended_at l.generators l.of_generator c.args.g.0 c.loop-k.k c.requires.0 c.in-default.ensures in
+    let end = ended_at l.generators l.of_generator c.args.g.0 c.loop-k.k c.requires.0 c.in_default.ensures in
     record {
       is = open_all l sound (member c.args.opened.now) c.args.g.0 c.loop-k.k (take c.loop-k.n c.loop-k.qubits) c.requires.0 end c.loop-k.invariant.2 c.loop-k.invariant.3;
       few = omega (arith, c.loop-k.invariant.1);

@@ -6,7 +6,7 @@ use Rattle.foreign.proofs.told_codes.on_told.Goals as goal
 
 pub returns-in-Some : goal.returns-in-Some
 returns-in-Some c =
-    done_told (model c.args.job.now) c.args.task c.args.number c.args.bytes.now (Some c.in-Some.kind) (c.on-kind.result, model c.on-kind.new.job) c.in-Some.ensures c.on-kind.ensures
+    done_told (model c.args.job.now) c.args.task c.args.number c.args.bytes.now (Some c.in-Some.kind) (c.on_kind.result, model c.on_kind.new.job) c.in-Some.ensures c.on_kind.ensures
 
 pub returns-in-None : goal.returns-in-None
 returns-in-None c =

@@ -5,7 +5,7 @@ use Rattle.foreign.proofs.told_codes.widened.Goals as goal
 
 pub loop-b-preserved : goal.loop-b-preserved
 loop-b-preserved c =
-    let e = pushed _ c.loop-b.invariant c.in-ok-push.was c.push.ensures.items in
+    let e = pushed _ c.loop-b.invariant c.in_ok-push.was c.push.ensures.items in
     let t = take_more c.args.bytes.now c.loop-b.b-index 0 (omega arith) in
     cc
 

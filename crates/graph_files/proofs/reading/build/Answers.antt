@@ -8,9 +8,9 @@ use Rattle.graphs.specs.Tanners.{counted, most_neighbours}
 use Rattle.graph_files.specs.Files.{row_questions}
 use Rattle.graph_files.proofs.reading.build.Goals as goal
 
-pub invariant-of-result : goal.invariant-of-result
-invariant-of-result c =
-    let made = c.in-ok-relation.ensures in
+pub invariant_of-result : goal.invariant_of-result
+invariant_of-result c =
+    let made = c.in_ok-relation.ensures in
     let m = c.args.checks in
     let n = c.args.matrix.columns in
     let rows = c.args.matrix.bytes.now in

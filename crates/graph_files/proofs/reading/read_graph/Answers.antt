@@ -6,16 +6,16 @@ use Rattle.graph_files.proofs.Heads.{heads_asked, rows_asked, rows_tell, checks_
 use Rattle.graph_files.proofs.RoundTrips.{read_is_written}
 use Rattle.graph_files.proofs.reading.read_graph.Goals as goal
 
-pub returns-in-err-head : goal.returns-in-err-head
-returns-in-err-head c =
+pub returns-in_err-head : goal.returns-in_err-head
+returns-in_err-head c =
     let p = err_from_is_err_and c.from-residual.result c.from-residual.ensures.1 in
-    rw (p.1, p.2) (sym (ap (λ r. unwrap_or r OutOfMemory) c.in-err-head.ensures))
+    rw (p.1, p.2) (sym (ap (λ r. unwrap_or r OutOfMemory) c.in_err-head.ensures))
 
 pub build-requires : goal.build-requires
 build-requires c =
     let f = c.args.file.now in
-    let h = c.in-ok-head.head in
-    let told = c.in-ok-head.ensures in
+    let h = c.in_ok-head.head in
+    let told = c.in_ok-head.ensures in
     let rows = h.matrix.bytes.now in
     let heads = heads_asked f told.0 in (
       checks_counted f rows h.checks h.matrix.columns heads told.1 told.2 told.3,
@@ -26,9 +26,9 @@ build-requires c =
 pub returns : goal.returns
 returns c =
     let f = c.args.file.now in
-    let h = c.in-ok-head.head in
-    let told = c.in-ok-head.ensures in
-    let bytes : (i : ℕ) → get_or f i 0 < 256 = λ i. omega (arith, c.type-inv.file i) in
+    let h = c.in_ok-head.head in
+    let told = c.in_ok-head.ensures in
+    let bytes : (i : ℕ) → get_or f i 0 < 256 = λ i. omega (arith, c.type_inv.file i) in
     let tells = rows_tell f h.matrix.bytes.now h.checks h.matrix.columns (heads_asked f told.0) told.1 told.2 told.3 in
     MatchResult-weaker c.build.result c.build.ensures
     (λ g is. (told.0, is ∙ tells, ap file_of (is ∙ tells) ∙ read_is_written f bytes told.0))

@@ -32,7 +32,7 @@ returns g c =
     let k = 9 + c.checks-checks.result * c.width.result - 9 in
     record {
       value = ap Ok (ap (λ n. 9 + n) size ∙ sym (length_file t)) ∙ sym (answered_room (file_of t) out enough);
-      after = ap₂ (λ x y. put_mid 9 k (x ++ post_of 0 9 out) y) (c.write-head.ensures ∙ ap₂ head_of c.variables-variables.ensures c.checks-checks.ensures) c.write-rows.ensures
+      after = ap₂ (λ x y. put_mid 9 k (x ++ post_of 0 9 out) y) (c.write_head.ensures ∙ ap₂ head_of c.variables-variables.ensures c.checks-checks.ensures) c.write_rows.ensures
           ∙ file_placed head rows out k refl (omega (arith, length_file t, length-append head rows))
           ∙ sym (written_room (file_of t) out enough);
       reads-back = written_is_read t (g.met.G.Graph.wired c.args.graph.now);

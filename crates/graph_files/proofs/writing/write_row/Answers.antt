@@ -26,8 +26,8 @@ returns-after-loop-k g c =
     let w = g.met.G.Graph.wired c.args.graph.now in
     row_all c.loop-k.row (t.of_check p) (row_of t p) c.loop-k.k (omega (arith, w.paired.row_few p c.requires.0)) c.loop-k.invariant
 
-pub returns-in-default : goal.returns-in-default
-returns-in-default g c =
+pub returns-in_default : goal.returns-in_default
+returns-in_default g c =
     let t = g.G.Graph.tanner c.args.graph.now in
     let p = c.args.p.0 in
-    row_all c.loop-k.row (t.of_check p) (row_of t p) c.loop-k.k (ended_at t.checks t.of_check p c.loop-k.k c.requires.0 c.in-default.ensures) c.loop-k.invariant
+    row_all c.loop-k.row (t.of_check p) (row_of t p) c.loop-k.k (ended_at t.checks t.of_check p c.loop-k.k c.requires.0 c.in_default.ensures) c.loop-k.invariant

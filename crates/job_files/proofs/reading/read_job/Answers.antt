@@ -8,78 +8,78 @@ use Rattle.job_files.specs.Faults.{of_job}
 use Rattle.job_files.proofs.Asked.{fault_of_head, fault_of_graph, small_counts, size_is, asked, place_small}
 use Rattle.job_files.proofs.reading.read_job.Goals as goal
 
-pub returns-in-err-head : goal.returns-in-err-head
-returns-in-err-head c =
+pub returns-in_err-head : goal.returns-in_err-head
+returns-in_err-head c =
     let f = c.args.file.now in
     let p = err_from_is_err_and c.from-residual.result c.from-residual.ensures.1 in
-    rw (p.1, p.2) (sym (ap (λ x. unwrap_or x (Graph OutOfMemory)) (fault_of_head f c.in-err-head.field-0.0 c.in-err-head.ensures)))
+    rw (p.1, p.2) (sym (ap (λ x. unwrap_or x (Graph OutOfMemory)) (fault_of_head f c.in_err-head.field-0.0 c.in_err-head.ensures)))
 
-pub returns-in-err-asked : goal.returns-in-err-asked
-returns-in-err-asked c =
+pub returns-in_err-asked : goal.returns-in_err-asked
+returns-in_err-asked c =
     let f = c.args.file.now in
-    let told = c.in-ok-head.ensures in
-    let p = err_from_is_err_and c.from-residual-in-err-asked.result c.from-residual-in-err-asked.ensures.1 in
-    let e = c.in-err-asked.field-0.0 in
-    let first = fault_of_graph f told.0 e (ap graph_refusal (sym told.2.bytes) ∙ c.in-err-asked.ensures) in
+    let told = c.in_ok-head.ensures in
+    let p = err_from_is_err_and c.from-residual-in_err-asked.result c.from-residual-in_err-asked.ensures.1 in
+    let e = c.in_err-asked.field-0.0 in
+    let first = fault_of_graph f told.0 e (ap graph_refusal (sym told.2.bytes) ∙ c.in_err-asked.ensures) in
     rw (p.1, p.2) (sym (ap (λ x. unwrap_or x (Graph OutOfMemory)) first))
 
-pub product-checks-checks-requires : goal.product-checks-checks-requires
-product-checks-checks-requires c =
-    let asked = c.in-ok-asked.ensures in
-    let small = small_counts c.in-ok-head.head.graph.bytes.now asked.0 in
+pub product_checks-checks-requires : goal.product_checks-checks-requires
+product_checks-checks-requires c =
+    let asked = c.in_ok-asked.ensures in
+    let small = small_counts c.in_ok-head.head.graph.bytes.now asked.0 in
     (omega (arith, asked.1, small.0), omega (arith, asked.2, small.1))
 
-pub product-qubits-qubits-requires : goal.product-qubits-qubits-requires
-product-qubits-qubits-requires c =
-    let asked = c.in-ok-asked.ensures in
-    let small = small_counts c.in-ok-head.head.graph.bytes.now asked.0 in
+pub product_qubits-qubits-requires : goal.product_qubits-qubits-requires
+product_qubits-qubits-requires c =
+    let asked = c.in_ok-asked.ensures in
+    let small = small_counts c.in_ok-head.head.graph.bytes.now asked.0 in
     (omega (arith, asked.1, small.0), omega (arith, asked.2, small.1))
 
-pub read-patterns-requires : goal.read-patterns-requires
-read-patterns-requires c =
+pub read_patterns-requires : goal.read_patterns-requires
+read_patterns-requires c =
     let f = c.args.file.now in
-    let told = c.in-ok-head.ensures in
-    let bytes : (i : ℕ) → get_or f i 0 < 256 = λ i. omega (arith, c.type-inv.file i) in
-    omega (arith, size_is f c.in-ok-head.head.graph.bytes.now told.0 told.2.bytes, place_small f bytes)
+    let told = c.in_ok-head.ensures in
+    let bytes : (i : ℕ) → get_or f i 0 < 256 = λ i. omega (arith, c.type_inv.file i) in
+    omega (arith, size_is f c.in_ok-head.head.graph.bytes.now told.0 told.2.bytes, place_small f bytes)
 
-pub returns-in-err-patterns : goal.returns-in-err-patterns
-returns-in-err-patterns c =
+pub returns-in_err-patterns : goal.returns-in_err-patterns
+returns-in_err-patterns c =
     let f = c.args.file.now in
-    let bytes = c.in-ok-head.head.graph.bytes.now in
-    let told = c.in-ok-head.ensures in
-    let h = c.in-ok-asked.asked in
-    let says = c.in-ok-asked.ensures in
-    let is = asked f bytes h.matrix.columns h.checks c.product-checks-checks.result c.product-qubits-qubits.result told.0 told.2.bytes says.0 says.1 says.2 c.product-checks-checks.ensures c.product-qubits-qubits.ensures in
-    let p = err_from_is_err_and c.from-residual-in-err-patterns.result c.from-residual-in-err-patterns.ensures.1 in
-    rw (p.1, p.2) (sym (ap (λ x. unwrap_or x (Graph OutOfMemory)) (is.fault ∙ c.in-err-patterns.ensures)))
+    let bytes = c.in_ok-head.head.graph.bytes.now in
+    let told = c.in_ok-head.ensures in
+    let h = c.in_ok-asked.asked in
+    let says = c.in_ok-asked.ensures in
+    let is = asked f bytes h.matrix.columns h.checks c.product_checks-checks.result c.product_qubits-qubits.result told.0 told.2.bytes says.0 says.1 says.2 c.product_checks-checks.ensures c.product_qubits-qubits.ensures in
+    let p = err_from_is_err_and c.from-residual-in_err-patterns.result c.from-residual-in_err-patterns.ensures.1 in
+    rw (p.1, p.2) (sym (ap (λ x. unwrap_or x (Graph OutOfMemory)) (is.fault ∙ c.in_err-patterns.ensures)))
 
-pub returns-in-err-graph : goal.returns-in-err-graph
-returns-in-err-graph c =
+pub returns-in_err-graph : goal.returns-in_err-graph
+returns-in_err-graph c =
     let f = c.args.file.now in
-    let bytes = c.in-ok-head.head.graph.bytes.now in
-    let told = c.in-ok-head.ensures in
-    let h = c.in-ok-asked.asked in
-    let says = c.in-ok-asked.ensures in
-    let is = asked f bytes h.matrix.columns h.checks c.product-checks-checks.result c.product-qubits-qubits.result told.0 told.2.bytes says.0 says.1 says.2 c.product-checks-checks.ensures c.product-qubits-qubits.ensures in
-    let p = err_from_is_err_and c.from-residual-in-err-graph.result c.from-residual-in-err-graph.ensures.1 in
-    let memory = c.in-err-graph.ensures ∙ ap (λ x. unwrap_or x OutOfMemory) says.0 in
-    let accepted = is.fault ∙ ap of_job c.in-ok-patterns.ensures.0 in
+    let bytes = c.in_ok-head.head.graph.bytes.now in
+    let told = c.in_ok-head.ensures in
+    let h = c.in_ok-asked.asked in
+    let says = c.in_ok-asked.ensures in
+    let is = asked f bytes h.matrix.columns h.checks c.product_checks-checks.result c.product_qubits-qubits.result told.0 told.2.bytes says.0 says.1 says.2 c.product_checks-checks.ensures c.product_qubits-qubits.ensures in
+    let p = err_from_is_err_and c.from-residual-in_err-graph.result c.from-residual-in_err-graph.ensures.1 in
+    let memory = c.in_err-graph.ensures ∙ ap (λ x. unwrap_or x OutOfMemory) says.0 in
+    let accepted = is.fault ∙ ap of_job c.in_ok-patterns.ensures.0 in
     rw (p.1, p.2) (ap Graph memory ∙ sym (ap (λ x. unwrap_or x (Graph OutOfMemory)) accepted))
 
 pub returns : goal.returns
 returns c =
     let f = c.args.file.now in
-    let bytes = c.in-ok-head.head.graph.bytes.now in
-    let told = c.in-ok-head.ensures in
-    let h = c.in-ok-asked.asked in
-    let says = c.in-ok-asked.ensures in
-    let is = asked f bytes h.matrix.columns h.checks c.product-checks-checks.result c.product-qubits-qubits.result told.0 told.2.bytes says.0 says.1 says.2 c.product-checks-checks.ensures c.product-qubits-qubits.ensures in
-    let cuts = c.in-ok-patterns.ensures in
+    let bytes = c.in_ok-head.head.graph.bytes.now in
+    let told = c.in_ok-head.ensures in
+    let h = c.in_ok-asked.asked in
+    let says = c.in_ok-asked.ensures in
+    let is = asked f bytes h.matrix.columns h.checks c.product_checks-checks.result c.product_qubits-qubits.result told.0 told.2.bytes says.0 says.1 says.2 c.product_checks-checks.ensures c.product_qubits-qubits.ensures in
+    let cuts = c.in_ok-patterns.ensures in
     let after = ap₂ (λ at k. at + width k) is.size is.checks in
     record {
       accepted = is.fault ∙ ap of_job cuts.0;
       side = told.1;
-      graph = c.in-ok-graph.ensures.1 ∙ ap graph_in told.2.bytes;
+      graph = c.in_ok-graph.ensures.1 ∙ ap graph_in told.2.bytes;
       graph_bytes = told.2;
       syndrome = record { place = cuts.1.place ∙ is.size; bytes = cuts.1.bytes ∙ ap₂ (λ at k. take (width k) (drop at f)) is.size is.checks };
       erasure = record { place = cuts.2.place ∙ after; bytes = cuts.2.bytes ∙ ap₂ (λ at k. take (width k) (drop at f)) after is.qubits };

@@ -4,8 +4,8 @@ use Rattle.jobs.specs.Moving.{wholly_open}
 use Rattle.jobs.proofs.Picks.{lowest_some}
 use Rattle.jobs.proofs.closing.next_closing.Goals as goal
 
-pub lowest-qubit-requires : goal.lowest-qubit-requires
-lowest-qubit-requires g c =
+pub lowest_qubit-requires : goal.lowest_qubit-requires
+lowest_qubit-requires g c =
     let l = g.C.Code.layout c.args.code.now in
     let m = model c.args.job.now in
-    (lowest_some l.generators (wholly_open l m) c.in-ok-g.g.0 (sym c.in-ok-g.ensures)).0
+    (lowest_some l.generators (wholly_open l m) c.in_ok-g.g.0 (sym c.in_ok-g.ensures)).0

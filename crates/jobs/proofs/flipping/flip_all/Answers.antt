@@ -14,8 +14,8 @@ pub loop-g-init : goal.loop-g-init
 loop-g-init g c =
     (begins (g.C.Code.layout c.args.code.now) (g.met.C.Code.sound c.args.code.now) c.args.counts (model c.args.job.now) c.requires.patterns, c.requires.closed)
 
-pub overflow-add-flips : goal.overflow-add-flips
-overflow-add-flips g c =
+pub overflow_add-flips : goal.overflow_add-flips
+overflow_add-flips g c =
     let l = g.C.Code.layout c.args.code.now in
     let m = model c.loop-g.job in
     let n : Counts = record { peels = c.args.counts.peels; prunes = c.args.counts.prunes; flips = c.loop-g.flips } in
@@ -46,4 +46,4 @@ pub returns : goal.returns
 returns g c =
     let l = g.C.Code.layout c.args.code.now in
     let m = model c.loop-g.job in
-    record { came = c.loop-g.invariant.0; ended = flip_ended l m c.loop-g.invariant.1 c.in-default.ensures }
+    record { came = c.loop-g.invariant.0; ended = flip_ended l m c.loop-g.invariant.1 c.in_default.ensures }

@@ -21,7 +21,7 @@ returns g c =
     let there = ltb a l.generators in
     let well = (fits_asked l m c.requires.patterns).of_remaining in
     let asked = and_from fits (clean && there) well.long (and_from clean there well.clean (lt-ltb a l.generators c.requires.within)) in
-    c.is-some.ensures
+    c.is_some.ensures
     ∙ sym (some_mapped told c.best_flip.result)
     ∙ ap is_some (c.best_flip.ensures ∙ cond-true (fits && (clean && there)) found None asked)
     ∙ some_mapped (with_fall l m.remaining) set

@@ -28,9 +28,9 @@ returns-after-loop-k g c =
     let low = c.loop-k.lowest in
     sym (at_drop_all (λ t. least (low ∷ t)) row c.loop-k.k (omega (arith, (g.met.C.Code.sound c.args.code.now).by_check.column_few c.args.v.0 c.requires))) ∙ c.loop-k.invariant
 
-pub returns-in-default : goal.returns-in-default
-returns-in-default g c =
+pub returns-in_default : goal.returns-in_default
+returns-in_default g c =
     let l = g.C.Code.layout c.args.code.now in
     let row = l.checks_of c.args.v.0 in
     let low = c.loop-k.lowest in
-    sym (at_drop_all (λ t. least (low ∷ t)) row c.loop-k.k (ended_at l.qubits l.checks_of c.args.v.0 c.loop-k.k c.requires c.in-default.ensures)) ∙ c.loop-k.invariant
+    sym (at_drop_all (λ t. least (low ∷ t)) row c.loop-k.k (ended_at l.qubits l.checks_of c.args.v.0 c.loop-k.k c.requires c.in_default.ensures)) ∙ c.loop-k.invariant

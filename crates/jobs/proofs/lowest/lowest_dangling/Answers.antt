@@ -19,7 +19,7 @@ pub loop-u-preserved : goal.loop-u-preserved
 loop-u-preserved g c =
     let l = g.C.Code.layout c.args.code.now in
     let m = model c.args.job.now in
-    still_none (dangling l m) c.loop-u.u c.loop-u.invariant (ap is_some c.in-default.ensures)
+    still_none (dangling l m) c.loop-u.u c.loop-u.invariant (ap is_some c.in_default.ensures)
 
 pub returns : goal.returns
 returns g c =

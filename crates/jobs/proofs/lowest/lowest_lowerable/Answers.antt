@@ -5,17 +5,17 @@ use Rattle.jobs.proofs.Choosing.{still_none, lowest_is}
 use Rattle.jobs.proofs.Cursors.{none_fewer}
 use Rattle.jobs.proofs.lowest.lowest_lowerable.Goals as goal
 
-pub returns-then-is-lowerable : goal.returns-then-is-lowerable
-returns-then-is-lowerable g c =
+pub returns-then-is_lowerable : goal.returns-then-is_lowerable
+returns-then-is_lowerable g c =
     let l = g.C.Code.layout c.args.code.now in
     let m = model c.args.job.now in
-    lowest_is (lowerable l m) c.loop-g.g l.generators c.loop-g.invariant c.if-is-lowerable.ensures (omega arith)
+    lowest_is (lowerable l m) c.loop-g.g l.generators c.loop-g.invariant c.if-is_lowerable.ensures (omega arith)
 
 pub loop-g-preserved : goal.loop-g-preserved
 loop-g-preserved g c =
     let l = g.C.Code.layout c.args.code.now in
     let m = model c.args.job.now in
-    still_none (lowerable l m) c.loop-g.g c.loop-g.invariant c.if-is-lowerable.ensures
+    still_none (lowerable l m) c.loop-g.g c.loop-g.invariant c.if-is_lowerable.ensures
 
 pub returns : goal.returns
 returns g c =

@@ -5,4 +5,4 @@ use Rattle.moves.specs.Held.{model}
 use Rattle.jobs.proofs.lowest.only_open.Goals as goal
 
 pub returns : goal.returns
-returns g c = c.only-one.ensures ∙ only_one_of (g.C.Code.layout c.args.code.now) (member (model c.args.job.now).opened) c.args.u.0 c.requires
+returns g c = c.only_one.ensures ∙ only_one_of (g.C.Code.layout c.args.code.now) (member (model c.args.job.now).opened) c.args.u.0 c.requires

@@ -5,13 +5,13 @@ use Rattle.jobs.specs.Progress.{none_yet}
 use Rattle.jobs.proofs.Running.{came_on, counted_all, ended_counts, ended_after, few_moves}
 use Rattle.jobs.proofs.run.make_all.Goals as goal
 
-pub flip-all-requires : goal.flip-all-requires
-flip-all-requires g c =
+pub flip_all-requires : goal.flip_all-requires
+flip_all-requires g c =
     let l = g.C.Code.layout c.args.code.now in
-    let came = c.close-all-counts.ensures.came in
+    let came = c.close_all-counts.ensures.came in
     record {
       patterns = came.asked;
-      closed = c.close-all-counts.ensures.closed;
+      closed = c.close_all-counts.ensures.closed;
       few = omega (arith, came.few, few_moves l (g.met.C.Code.sound c.args.code.now) (model c.args.job.now) c.requires);
     }
 
@@ -20,8 +20,8 @@ returns g c =
     let l = g.C.Code.layout c.args.code.now in
     let sound = g.met.C.Code.sound c.args.code.now in
     let start = model c.args.job.now in
-    let first = c.close-all-counts in
-    let last = c.flip-all in
+    let first = c.close_all-counts in
+    let last = c.flip_all in
     let m = model last.new.job in
     let n = last.result in
     let way = came_on l none_yet start first.result (model first.new.job) n m first.ensures.came last.ensures.came in

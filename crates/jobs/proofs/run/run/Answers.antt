@@ -5,13 +5,13 @@ use Rattle.jobs.proofs.Runs.{run_ends}
 use Rattle.jobs.proofs.TwoJobs.{two_jobs}
 use Rattle.jobs.proofs.run.run.Goals as goal
 
-pub returns-in-err-ask-patterns : goal.returns-in-err-ask-patterns
-returns-in-err-ask-patterns g c =
+pub returns-in_err-ask_patterns : goal.returns-in_err-ask_patterns
+returns-in_err-ask_patterns g c =
     let l = g.C.Code.layout c.args.code.now in
     let sound = g.met.C.Code.sound c.args.code.now in
     let p = err_from_is_err_and c.from-residual.result c.from-residual.ensures.1 in
     record {
-      value = rw (p.1, p.2) (run_refused l (model c.args.job.now) c.in-err-ask-patterns.field-0.0 c.in-err-ask-patterns.ensures);
+      value = rw (p.1, p.2) (run_refused l (model c.args.job.now) c.in_err-ask_patterns.field-0.0 c.in_err-ask_patterns.ensures);
       ends = run_ends l sound;
       agree = two_jobs l sound;
     }
@@ -20,9 +20,9 @@ pub returns : goal.returns
 returns g c =
     let l = g.C.Code.layout c.args.code.now in
     let sound = g.met.C.Code.sound c.args.code.now in
-    let made = c.make-all-peels in
+    let made = c.make_all-peels in
     record {
-      value = run_accepted l (model c.args.job.now) c.in-ok-ask-patterns.ensures made.result (model made.new.job) c.standing-verdict.result made.ensures.value made.ensures.after c.standing-verdict.ensures;
+      value = run_accepted l (model c.args.job.now) c.in_ok-ask_patterns.ensures made.result (model made.new.job) c.standing-verdict.result made.ensures.value made.ensures.after c.standing-verdict.ensures;
       ends = run_ends l sound;
       agree = two_jobs l sound;
     }

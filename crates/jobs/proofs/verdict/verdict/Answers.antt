@@ -9,15 +9,15 @@ use Rattle.jobs.specs.Verdicts.{verdict}
 use Rattle.jobs.proofs.Verdicts.{stalled_exactly}
 use Rattle.jobs.proofs.verdict.verdict.Goals as goal
 
-pub returns-in-err-ask-patterns : goal.returns-in-err-ask-patterns
-returns-in-err-ask-patterns g c =
+pub returns-in_err-ask_patterns : goal.returns-in_err-ask_patterns
+returns-in_err-ask_patterns g c =
     let l = g.C.Code.layout c.args.code.now in
     let m = model c.args.job.now in
     let asked = first_no (pattern_questions l m) in
-    let e = c.in-err-ask-patterns.field-0.0 in
+    let e = c.in_err-ask_patterns.field-0.0 in
     let p = err_from_is_err_and c.from-residual.result c.from-residual.ensures.1 in
     record {
-      value = rw (p.1, p.2) (ap (λ o. o.0) (refused_at asked m (Ok (verdict l m), m) e (answer_err asked e c.in-err-ask-patterns.ensures)));
+      value = rw (p.1, p.2) (ap (λ o. o.0) (refused_at asked m (Ok (verdict l m), m) e (answer_err asked e c.in_err-ask_patterns.ensures)));
       stalled = stalled_exactly l (g.met.C.Code.sound c.args.code.now);
     }
 
@@ -27,6 +27,6 @@ returns g c =
     let m = model c.args.job.now in
     let asked = first_no (pattern_questions l m) in
     record {
-      value = ap Ok c.standing.ensures ∙ ap (λ o. o.0) (accepted_at asked m (Ok (verdict l m), m) (answer_ok asked c.in-ok-ask-patterns.ensures));
+      value = ap Ok c.standing.ensures ∙ ap (λ o. o.0) (accepted_at asked m (Ok (verdict l m), m) (answer_ok asked c.in_ok-ask_patterns.ensures));
       stalled = stalled_exactly l (g.met.C.Code.sound c.args.code.now);
     }

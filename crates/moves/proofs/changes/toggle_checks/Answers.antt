@@ -29,8 +29,8 @@ returns-after-loop-k g c =
     let v = c.args.v.0 in
     sym (at_drop_all (toggled_all c.loop-k.remaining) (l.checks_of v) c.loop-k.k (omega (arith, (g.met.C.Code.sound c.args.code.now).by_check.column_few v c.requires.0))) ∙ c.loop-k.invariant
 
-pub returns-in-default : goal.returns-in-default
-returns-in-default g c =
+pub returns-in_default : goal.returns-in_default
+returns-in_default g c =
     let l = g.C.Code.layout c.args.code.now in
     let v = c.args.v.0 in
-    sym (at_drop_all (toggled_all c.loop-k.remaining) (l.checks_of v) c.loop-k.k (ended_at l.qubits l.checks_of v c.loop-k.k c.requires.0 c.in-default.ensures)) ∙ c.loop-k.invariant
+    sym (at_drop_all (toggled_all c.loop-k.remaining) (l.checks_of v) c.loop-k.k (ended_at l.qubits l.checks_of v c.loop-k.k c.requires.0 c.in_default.ensures)) ∙ c.loop-k.invariant

@@ -7,8 +7,8 @@ use Rattle.patterns.proofs.Added.{added_same, added_added, added_none}
 use Rattle.flips.proofs.Near.{toggles, syndrome_by_qubits}
 use Rattle.moves.proofs.changes.toggle_syndrome.Goals as goal
 
-pub toggle-checks-requires : goal.toggle-checks-requires
-toggle-checks-requires g c =
+pub toggle_checks-requires : goal.toggle_checks-requires
+toggle_checks-requires g c =
     let l = g.C.Code.layout c.args.code.now in
     (All-get_or (λ v. v < l.qubits) c.args.qubits.now c.loop-v.v-index 0 c.loop-v-test.true c.requires.1, ap (λ n. eqb n (width l.checks)) c.loop-v.invariant.0 ∙ c.requires.0)
 
@@ -19,8 +19,8 @@ loop-v-preserved g c =
     let i = c.loop-v.v-index in
     let rest = toggles l (drop (i + 1) xs) in
     let now = c.loop-v.remaining in (
-      c.toggle-checks.auto.remaining ∙ c.loop-v.invariant.0,
-      ap (λ p. added l.checks p rest) c.toggle-checks.ensures
+      c.toggle_checks.auto.remaining ∙ c.loop-v.invariant.0,
+      ap (λ p. added l.checks p rest) c.toggle_checks.ensures
           ∙ added_added l.checks now (has (l.checks_of (get_or xs i 0))) rest
           ∙ sym (at_drop_more (λ s. added l.checks now (toggles l s)) xs i 0 c.loop-v-test.true)
           ∙ c.loop-v.invariant.1,

@@ -14,7 +14,7 @@ returns-then-v-start g c =
     let whole = a.variables * b.variables in
     let all = whole + a.checks * b.checks in
     let here : v < all = omega (arith, c.if-v-qubits.false, c.qubits.ensures) in
-    let low : v < whole = omega (arith, c.variable-pairs-start.ensures) in
+    let low : v < whole = omega (arith, c.variable_pairs-start.ensures) in
     c.degree.ensures
     ∙ second_size b.variables b.of_variable c.variables.result b.variables v c.variables.ensures b.checks (mod_below v b.variables wb.some_variables)
     ∙ sym (left_size all whole (by_second b.variables b.checks b.of_variable) (by_first b.checks a.of_check) v here low)
@@ -29,8 +29,8 @@ returns g c =
     let whole = a.variables * b.variables in
     let all = whole + a.checks * b.checks in
     let here : v < all = omega (arith, c.if-v-qubits.false, c.qubits.ensures) in
-    let start = c.variable-pairs-start.result in
-    let known : start ≡ whole = c.variable-pairs-start.ensures in
+    let start = c.variable_pairs-start.result in
+    let known : start ≡ whole = c.variable_pairs-start.ensures in
     let inner : v - start < a.checks * b.checks = omega arith in
     c.degree-2.ensures
     ∙ first_size a.checks a.of_check c.checks.result b.checks (v - start) c.checks.ensures (div_below (v - start) b.checks a.checks wb.some_checks inner)

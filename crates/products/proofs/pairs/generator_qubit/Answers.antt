@@ -5,8 +5,8 @@ use Rattle.products.specs.Pairs.{by_first, by_second}
 use Rattle.products.proofs.Telling.{checks_bounded, variables_bounded, told_parts, first_size, told_or, row_left, row_right, row_ended}
 use Rattle.products.proofs.pairs.generator_qubit.Goals as goal
 
-pub first-moves-requires : goal.first-moves-requires
-first-moves-requires g c =
+pub first_moves-requires : goal.first_moves-requires
+first_moves-requires g c =
     let a = g.A.Graph.tanner c.args.a.now in
     let b = g.B.Graph.tanner c.args.b.now in
     let wa = g.met.A.Graph.wired c.args.a.now in
@@ -21,8 +21,8 @@ first-moves-requires g c =
     let parts = told_parts w b.variables x a.checks known wb.some_variables here in
     (checks_bounded a wa, parts.0, omega (arith, known, wb.most_variables), parts.1)
 
-pub second-moves-requires : goal.second-moves-requires
-second-moves-requires g c =
+pub second_moves-requires : goal.second_moves-requires
+second_moves-requires g c =
     let a = g.A.Graph.tanner c.args.a.now in
     let b = g.B.Graph.tanner c.args.b.now in
     let wa = g.met.A.Graph.wired c.args.a.now in
@@ -51,14 +51,14 @@ returns-then-k-size g c =
     let w = c.variables-n.result in
     let known : w ≡ b.variables = c.variables-n.ensures in
     let parts = told_parts w b.variables x a.checks known wb.some_variables here in
-    let size = c.unwrap-or-size.result in
-    let sized : size ≡ length (by_first b.variables a.of_check x) = told_or c.degree.result size (length (by_first b.variables a.of_check x)) (c.degree.ensures ∙ first_size a.checks a.of_check w b.variables x known (div_below x b.variables a.checks wb.some_variables here)) c.unwrap-or-size.ensures in
-    c.first-moves.ensures.value
+    let size = c.unwrap_or-size.result in
+    let sized : size ≡ length (by_first b.variables a.of_check x) = told_or c.degree.result size (length (by_first b.variables a.of_check x)) (c.degree.ensures ∙ first_size a.checks a.of_check w b.variables x known (div_below x b.variables a.checks wb.some_variables here)) c.unwrap_or-size.ensures in
+    c.first_moves.ensures.value
     ∙ ap (λ m. slice_get (by_first m a.of_check x) k) known
     ∙ row_left rows whole (by_first b.variables a.of_check) (by_second b.variables b.checks b.of_variable) x here k (omega arith)
 
-pub returns-in-err-x : goal.returns-in-err-x
-returns-in-err-x g c =
+pub returns-in_err-x : goal.returns-in_err-x
+returns-in_err-x g c =
     let a = g.A.Graph.tanner c.args.a.now in
     let b = g.B.Graph.tanner c.args.b.now in
     let wa = g.met.A.Graph.wired c.args.a.now in
@@ -71,10 +71,10 @@ returns-in-err-x g c =
     let w = c.variables-n.result in
     let known : w ≡ b.variables = c.variables-n.ensures in
     let parts = told_parts w b.variables x a.checks known wb.some_variables here in
-    let size = c.unwrap-or-size.result in
-    let sized : size ≡ length (by_first b.variables a.of_check x) = told_or c.degree.result size (length (by_first b.variables a.of_check x)) (c.degree.ensures ∙ first_size a.checks a.of_check w b.variables x known (div_below x b.variables a.checks wb.some_variables here)) c.unwrap-or-size.ensures in
+    let size = c.unwrap_or-size.result in
+    let sized : size ≡ length (by_first b.variables a.of_check x) = told_or c.degree.result size (length (by_first b.variables a.of_check x)) (c.degree.ensures ∙ first_size a.checks a.of_check w b.variables x known (div_below x b.variables a.checks wb.some_variables here)) c.unwrap_or-size.ensures in
     c.from-residual.ensures
-    ∙ row_ended rows whole (by_first b.variables a.of_check) (by_second b.variables b.checks b.of_variable) x here k size sized (omega arith) (c.in-err-x.ensures.value ∙ ap₂ (λ m n. slice_get (by_second m n b.of_variable x) (k - size)) known c.checks.ensures)
+    ∙ row_ended rows whole (by_first b.variables a.of_check) (by_second b.variables b.checks b.of_variable) x here k size sized (omega arith) (c.in_err-x.ensures.value ∙ ap₂ (λ m n. slice_get (by_second m n b.of_variable x) (k - size)) known c.checks.ensures)
 
 pub returns : goal.returns
 returns g c =
@@ -90,8 +90,8 @@ returns g c =
     let w = c.variables-n.result in
     let known : w ≡ b.variables = c.variables-n.ensures in
     let parts = told_parts w b.variables x a.checks known wb.some_variables here in
-    let size = c.unwrap-or-size.result in
-    let sized : size ≡ length (by_first b.variables a.of_check x) = told_or c.degree.result size (length (by_first b.variables a.of_check x)) (c.degree.ensures ∙ first_size a.checks a.of_check w b.variables x known (div_below x b.variables a.checks wb.some_variables here)) c.unwrap-or-size.ensures in
-    let y = c.in-ok-x.x in
-    ap (λ s. Some (s + y)) c.variable-pairs.ensures
-    ∙ row_right rows whole (by_first b.variables a.of_check) (by_second b.variables b.checks b.of_variable) x here k size y sized (omega arith) (c.in-ok-x.ensures.value ∙ ap₂ (λ m n. slice_get (by_second m n b.of_variable x) (k - size)) known c.checks.ensures)
+    let size = c.unwrap_or-size.result in
+    let sized : size ≡ length (by_first b.variables a.of_check x) = told_or c.degree.result size (length (by_first b.variables a.of_check x)) (c.degree.ensures ∙ first_size a.checks a.of_check w b.variables x known (div_below x b.variables a.checks wb.some_variables here)) c.unwrap_or-size.ensures in
+    let y = c.in_ok-x.x in
+    ap (λ s. Some (s + y)) c.variable_pairs.ensures
+    ∙ row_right rows whole (by_first b.variables a.of_check) (by_second b.variables b.checks b.of_variable) x here k size y sized (omega arith) (c.in_ok-x.ensures.value ∙ ap₂ (λ m n. slice_get (by_second m n b.of_variable x) (k - size)) known c.checks.ensures)

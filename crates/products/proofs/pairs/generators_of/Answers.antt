@@ -14,7 +14,7 @@ returns-then-v-start g c =
     let whole = a.variables * b.variables in
     let all = whole + a.checks * b.checks in
     let here : v < all = omega (arith, c.if-v-qubits.false, c.qubits.ensures) in
-    let low : v < whole = omega (arith, c.variable-pairs-start.ensures) in
+    let low : v < whole = omega (arith, c.variable_pairs-start.ensures) in
     c.degree.ensures
     ∙ first_size a.variables a.of_variable c.variables.result b.variables v c.variables.ensures (div_below v b.variables a.variables wb.some_variables low)
     ∙ sym (left_size all whole (by_first b.variables a.of_variable) (by_second b.checks b.variables b.of_check) v here low)
@@ -29,8 +29,8 @@ returns g c =
     let whole = a.variables * b.variables in
     let all = whole + a.checks * b.checks in
     let here : v < all = omega (arith, c.if-v-qubits.false, c.qubits.ensures) in
-    let start = c.variable-pairs-start.result in
-    let known : start ≡ whole = c.variable-pairs-start.ensures in
+    let start = c.variable_pairs-start.result in
+    let known : start ≡ whole = c.variable_pairs-start.ensures in
     c.degree-2.ensures
     ∙ second_size b.checks b.of_check c.checks.result b.checks (v - start) c.checks.ensures b.variables (mod_below (v - start) b.checks wb.some_checks)
     ∙ ap (λ s. Some (length (by_second b.checks b.variables b.of_check (v - s)))) known

@@ -2,8 +2,8 @@ use Rattle.std.proofs.Common.{◌≡◌, ◌+◌, ◌-◌, ◌*◌, ◌<◌, ari
 use Rattle.products.proofs.Telling.{checks_bounded, variables_bounded, told_parts}
 use Rattle.products.proofs.pairs.qubit_generator.Goals as goal
 
-pub first-moves-requires : goal.first-moves-requires
-first-moves-requires g c =
+pub first_moves-requires : goal.first_moves-requires
+first_moves-requires g c =
     let a = g.A.Graph.tanner c.args.a.now in
     let b = g.B.Graph.tanner c.args.b.now in
     let wa = g.met.A.Graph.wired c.args.a.now in
@@ -12,12 +12,12 @@ first-moves-requires g c =
     let whole = a.variables * b.variables in
     let all = whole + a.checks * b.checks in
     let here : v < all = omega (arith, c.if-v-qubits.false, c.qubits.ensures) in
-    let low : v < a.variables * b.variables = omega (arith, c.variable-pairs-start.ensures) in
+    let low : v < a.variables * b.variables = omega (arith, c.variable_pairs-start.ensures) in
     let parts = told_parts c.variables.result b.variables v a.variables c.variables.ensures wb.some_variables low in
     (variables_bounded a wa, parts.0, omega (arith, c.variables.ensures, wb.most_variables), parts.1)
 
-pub second-moves-requires : goal.second-moves-requires
-second-moves-requires g c =
+pub second_moves-requires : goal.second_moves-requires
+second_moves-requires g c =
     let a = g.A.Graph.tanner c.args.a.now in
     let b = g.B.Graph.tanner c.args.b.now in
     let wa = g.met.A.Graph.wired c.args.a.now in
@@ -26,8 +26,8 @@ second-moves-requires g c =
     let whole = a.variables * b.variables in
     let all = whole + a.checks * b.checks in
     let here : v < all = omega (arith, c.if-v-qubits.false, c.qubits.ensures) in
-    let start = c.variable-pairs-start.result in
-    let known : start ≡ whole = c.variable-pairs-start.ensures in
+    let start = c.variable_pairs-start.result in
+    let known : start ≡ whole = c.variable_pairs-start.ensures in
     let inner : v - start < a.checks * b.checks = omega arith in
     let parts = told_parts c.checks.result b.checks (v - start) a.checks c.checks.ensures wb.some_checks inner in
     (checks_bounded b wb, parts.0, omega (arith, c.variables-2.ensures, wb.most_variables), omega (arith, parts.1, wa.most_checks), parts.2)

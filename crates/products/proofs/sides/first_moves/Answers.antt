@@ -6,28 +6,28 @@ use Rattle.products.proofs.sides.first_moves.Goals as goal
 use Rattle.products.proofs.sides.first_moves.Goals.{In-ok-v}
 use Rattle.products.proofs.sides.first_moves.Given.{Over}
 
-below : (g : Over) (c : In-ok-v g) → c.in-ok-v.v * c.args.width + c.args.x % c.args.width < 9216
+below : (g : Over) (c : In-ok-v g) → c.in_ok-v.v * c.args.width + c.args.x % c.args.width < 9216
 below g c =
     let s = c.args.side.now in
     let u = c.args.x / c.args.width in
-    let v = c.in-ok-v.v in
-    pair_below v (c.args.x % c.args.width) c.args.width (c.requires.0 u v c.requires.3 (found_at (g.S.Side.nodes s) (g.S.Side.joined s) u c.args.k c.requires.3 v c.in-ok-v.ensures).among) (omega (arith, mod_below c.args.x c.args.width c.requires.1)) c.requires.2
+    let v = c.in_ok-v.v in
+    pair_below v (c.args.x % c.args.width) c.args.width (c.requires.0 u v c.requires.3 (found_at (g.S.Side.nodes s) (g.S.Side.joined s) u c.args.k c.requires.3 v c.in_ok-v.ensures).among) (omega (arith, mod_below c.args.x c.args.width c.requires.1)) c.requires.2
 
-pub returns-in-err-v : goal.returns-in-err-v
-returns-in-err-v g c =
+pub returns-in_err-v : goal.returns-in_err-v
+returns-in_err-v g c =
     let s = c.args.side.now in
     let w = c.args.width in
     let x = c.args.x in
     record {
-      value = c.from-residual.ensures ∙ none_moved (g.S.Side.nodes s) (g.S.Side.joined s) (λ v. v * w + x % w) (x / w) c.args.k c.requires.3 c.in-err-v.ensures;
+      value = c.from-residual.ensures ∙ none_moved (g.S.Side.nodes s) (g.S.Side.joined s) (λ v. v * w + x % w) (x / w) c.args.k c.requires.3 c.in_err-v.ensures;
       bound = subst (λ r. IfSome r (λ y. y < 9216)) (sym c.from-residual.ensures) tt;
     }
 
-pub overflow-mul-result : goal.overflow-mul-result
-overflow-mul-result g c = omega (arith, below g (goal.at.overflow-mul-result g c).In-ok-v)
+pub overflow_mul-result : goal.overflow_mul-result
+overflow_mul-result g c = omega (arith, below g (goal.at.overflow_mul-result g c).In-ok-v)
 
-pub overflow-add-result : goal.overflow-add-result
-overflow-add-result g c = omega (arith, below g (goal.at.overflow-add-result g c).In-ok-v)
+pub overflow_add-result : goal.overflow_add-result
+overflow_add-result g c = omega (arith, below g (goal.at.overflow_add-result g c).In-ok-v)
 
 pub returns : goal.returns
 returns g c =
@@ -35,6 +35,6 @@ returns g c =
     let w = c.args.width in
     let x = c.args.x in
     record {
-      value = moved (g.S.Side.nodes s) (g.S.Side.joined s) (λ v. v * w + x % w) (x / w) c.args.k c.requires.3 c.in-ok-v.v c.in-ok-v.ensures;
+      value = moved (g.S.Side.nodes s) (g.S.Side.joined s) (λ v. v * w + x % w) (x / w) c.args.k c.requires.3 c.in_ok-v.v c.in_ok-v.ensures;
       bound = below g (goal.at.returns g c).In-ok-v;
     }

@@ -11,7 +11,7 @@ returns-then-out-size c =
     let text = refusal_line c.args.fault in
     let out = c.args.out.now in
     let layer = put_same c.layer.ensures c.put-at-2.ensures in
-    let count = put_same (ap (λ n. 32 ∷ decimal n) (c.from.ensures ∙ c.number.ensures ∙ ap number c.refusal.ensures)) c.put-count-at.ensures.after in
+    let count = put_same (ap (λ n. 32 ∷ decimal n) (c.from.ensures ∙ c.number.ensures ∙ ap number c.refusal.ensures)) c.put_count-at.ensures.after in
     let all = put_join c.put-at.ensures (put_join layer (put_join count c.put-size.ensures)) in
     let short : length out < length text = omega (arith, all.place) in
     record { value = sym (answered_short text out short); after = sym (written_short text out short) }
@@ -22,7 +22,7 @@ returns c =
     let text = refusal_line c.args.fault in
     let out = c.args.out.now in
     let layer = put_same c.layer.ensures c.put-at-2.ensures in
-    let count = put_same (ap (λ n. 32 ∷ decimal n) (c.from.ensures ∙ c.number.ensures ∙ ap number c.refusal.ensures)) c.put-count-at.ensures.after in
+    let count = put_same (ap (λ n. 32 ∷ decimal n) (c.from.ensures ∙ c.number.ensures ∙ ap number c.refusal.ensures)) c.put_count-at.ensures.after in
     let all = put_join c.put-at.ensures (put_join layer (put_join count c.put-size.ensures)) in
     let whole = put_same all.front c.put.ensures in
     let enough : length text ≤ length out = omega (arith, all.place) in

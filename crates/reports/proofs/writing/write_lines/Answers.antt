@@ -9,25 +9,25 @@ pub returns-then-out-size : goal.returns-then-out-size
 returns-then-out-size g c =
     let t = told g.C.Code.symbol (g.C.Code.layout c.args.code.now) c.args.report in
     let out = c.args.out.now in
-    let short : length out < length (report_of t) = omega (arith, length_report t, c.put-short-lines-size.ensures.after.place) in
+    let short : length out < length (report_of t) = omega (arith, length_report t, c.put_short_lines-size.ensures.after.place) in
     record { value = sym (answered_short (report_of t) out short); after = sym (written_short (report_of t) out short) }
 
-pub put-pattern-requires : goal.put-pattern-requires
-put-pattern-requires g c =
-    let lines = c.put-short-lines-size.ensures.after in
+pub put_pattern-requires : goal.put_pattern-requires
+put_pattern-requires g c =
+    let lines = c.put_short_lines-size.ensures.after in
     let fix = length_pattern_line (codes "fix") c.args.report.correction.now in
-    omega (arith, fix, lines.place, ap length lines.front, c.put-at.ensures.place, c.put-pattern-at.ensures.place)
+    omega (arith, fix, lines.place, ap length lines.front, c.put-at.ensures.place, c.put_pattern-at.ensures.place)
 
 pub returns : goal.returns
 unfolding report_of
 returns g c =
     let t = told g.C.Code.symbol (g.C.Code.layout c.args.code.now) c.args.report in
     let out = c.args.out.now in
-    let lines = c.put-short-lines-size.ensures.after in
+    let lines = c.put_short_lines-size.ensures.after in
     let enough : length (report_of t) ≤ length out = omega (arith, length_report t, lines.place) in
     let first = put_same lines.front c.put-at.ensures in
-    let all = put_join first (put_join c.put-pattern-at.ensures c.put-pattern.ensures) in
-    let place : c.put-pattern.result ≡ length (report_of t) = omega (arith, all.place) in
+    let all = put_join first (put_join c.put_pattern-at.ensures c.put_pattern.ensures) in
+    let place : c.put_pattern.result ≡ length (report_of t) = omega (arith, all.place) in
     record {
       value = ap Ok place ∙ sym (answered_room (report_of t) out enough);
       after = put_first all ∙ sym (written_room (report_of t) out enough);

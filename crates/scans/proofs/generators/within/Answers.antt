@@ -28,8 +28,8 @@ returns-after-loop-k g c =
     let u = c.args.g.0 in
     sym (at_drop_all (all_in (member c.args.set.now)) (l.of_generator u) c.loop-k.k (omega (arith, (g.met.C.Code.sound c.args.code.now).by_generator.row_few u c.requires))) ∙ c.loop-k.invariant
 
-pub returns-in-default : goal.returns-in-default
-returns-in-default g c =
+pub returns-in_default : goal.returns-in_default
+returns-in_default g c =
     let l = g.C.Code.layout c.args.code.now in
     let u = c.args.g.0 in
-    sym (at_drop_all (all_in (member c.args.set.now)) (l.of_generator u) c.loop-k.k (ended_at l.generators l.of_generator u c.loop-k.k c.requires c.in-default.ensures)) ∙ c.loop-k.invariant
+    sym (at_drop_all (all_in (member c.args.set.now)) (l.of_generator u) c.loop-k.k (ended_at l.generators l.of_generator u c.loop-k.k c.requires c.in_default.ensures)) ∙ c.loop-k.invariant

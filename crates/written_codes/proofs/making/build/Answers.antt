@@ -6,14 +6,14 @@ use Rattle.matrices.specs.Rows.{entry, turned_entry}
 use Rattle.written_codes.specs.Writing.{written_questions}
 use Rattle.written_codes.proofs.Makes.{Both, column_count, short_rows, short_columns, code_made, qubits_within, checks_within, generators_within, both_light, even_made}
 use Rattle.written_codes.proofs.making.build.Goals as goal
-use Rattle.written_codes.proofs.making.build.Goals.{In-ok-by-generator}
+use Rattle.written_codes.proofs.making.build.Goals.{In-ok-by_generator}
 
-checks_made : (c : In-ok-by-generator) → Both c.args.m c.args.checks.columns c.args.checks.bytes.now (lists c.in-ok-by-check.by_check.rows.nodes) (lists c.in-ok-by-check.by_check.columns.nodes)
-checks_made c = let made = c.in-ok-by-check.ensures in record { rows_are = made.0; columns_are = made.1 }
+checks_made : (c : In-ok-by_generator) → Both c.args.m c.args.checks.columns c.args.checks.bytes.now (lists c.in_ok-by_check.by_check.rows.nodes) (lists c.in_ok-by_check.by_check.columns.nodes)
+checks_made c = let made = c.in_ok-by_check.ensures in record { rows_are = made.0; columns_are = made.1 }
 
-generators_made : (c : In-ok-by-generator) → Both c.args.k c.args.checks.columns c.args.generators.bytes.now (lists c.in-ok-by-generator.by_generator.rows.nodes) (lists c.in-ok-by-generator.by_generator.columns.nodes)
+generators_made : (c : In-ok-by_generator) → Both c.args.k c.args.checks.columns c.args.generators.bytes.now (lists c.in_ok-by_generator.by_generator.rows.nodes) (lists c.in_ok-by_generator.by_generator.columns.nodes)
 generators_made c =
-    let made = c.in-ok-by-generator.ensures in
+    let made = c.in_ok-by_generator.ensures in
     let bytes = c.args.generators.bytes.now in
     let k = c.args.k in
     record {
@@ -21,8 +21,8 @@ generators_made c =
       columns_are = made.1 ∙ ap (λ n. tabled n k (turned_entry n bytes)) c.requires.0;
     }
 
-pub invariant-of-result : goal.invariant-of-result
-invariant-of-result c =
+pub invariant_of-result : goal.invariant_of-result
+invariant_of-result c =
     let of-checks = checks_made c in
     let of-generators = generators_made c in
     let replies = yes_from_none (written_questions c.args.checks.columns c.args.m c.args.k c.args.checks.bytes.now c.args.generators.bytes.now) c.requires.1 in
@@ -53,4 +53,4 @@ invariant-of-result c =
     )
 
 pub returns : goal.returns
-returns c = let at = (goal.at.returns c).In-ok-by-generator in code_made (checks_made at) (generators_made at)
+returns c = let at = (goal.at.returns c).In-ok-by_generator in code_made (checks_made at) (generators_made at)

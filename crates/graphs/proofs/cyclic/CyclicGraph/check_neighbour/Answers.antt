@@ -4,13 +4,13 @@ use Rattle.graphs.specs.declared.graph.VariableNode.{VariableNode}
 use Rattle.graphs.specs.Shifts.{neighbour_mapped, neighbour_none}
 use Rattle.graphs.proofs.cyclic.CyclicGraph.check_neighbour.Goals as goal
 
-pub returns-in-err-shift : goal.returns-in-err-shift
-returns-in-err-shift c =
+pub returns-in_err-shift : goal.returns-in_err-shift
+returns-in_err-shift c =
     let g = c.args.self.now in
     ap (option_map (λ (v : VariableNode). v.0)) c.from-residual.ensures
-    ∙ neighbour_none g.count (λ p s. (p + s) % g.count) (vec_items g.shifts) c.args.p.0 (omega arith) c.args.k c.in-err-shift.ensures.value
+    ∙ neighbour_none g.count (λ p s. (p + s) % g.count) (vec_items g.shifts) c.args.p.0 (omega arith) c.args.k c.in_err-shift.ensures.value
 
 pub returns : goal.returns
 returns c =
     let g = c.args.self.now in
-    neighbour_mapped g.count (λ p s. (p + s) % g.count) (vec_items g.shifts) c.args.p.0 (omega arith) c.args.k c.in-ok-shift.shift c.in-ok-shift.ensures.value
+    neighbour_mapped g.count (λ p s. (p + s) % g.count) (vec_items g.shifts) c.args.p.0 (omega arith) c.args.k c.in_ok-shift.shift c.in_ok-shift.ensures.value

@@ -3,13 +3,13 @@ use Rattle.matrices.specs.Rows.{entry, turned_entry}
 use Rattle.matrices.proofs.Tables.{told_tabled}
 use Rattle.matrices.proofs.relation.Relation.of.Goals as goal
 
-pub invariant-of-result : goal.invariant-of-result
-invariant-of-result c =
+pub invariant_of-result : goal.invariant_of-result
+invariant_of-result c =
     let n = c.args.matrix.columns in
     let bytes = c.args.matrix.bytes.now in
     let m = c.args.count in
-    let rows = lists c.in-ok-rows.rows.nodes in
-    let columns = lists c.in-ok-columns.columns.nodes in
-    let r = c.in-ok-rows.ensures in
-    let k = c.in-ok-columns.ensures in
+    let rows = lists c.in_ok-rows.rows.nodes in
+    let columns = lists c.in_ok-columns.columns.nodes in
+    let r = c.in_ok-rows.ensures in
+    let k = c.in_ok-columns.ensures in
     (told_tabled m n (entry n bytes) rows columns r k, (told_tabled n m (turned_entry n bytes) columns rows k r, tt))

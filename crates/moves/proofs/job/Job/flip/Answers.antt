@@ -18,33 +18,33 @@ use Rattle.moves.proofs.job.Job.flip.Goals as goal
 use Rattle.moves.proofs.job.Job.flip.Goals.{After-qubits-qubits}
 use Rattle.moves.proofs.job.Job.flip.Given.{Over}
 
-pub returns-in-err-ask-patterns : goal.returns-in-err-ask-patterns
-returns-in-err-ask-patterns g c =
+pub returns-in_err-ask_patterns : goal.returns-in_err-ask_patterns
+returns-in_err-ask_patterns g c =
     let l = g.C.Code.layout c.args.code.now in
     let m = model c.args.self.now in
     let a = c.args.g.0 in
-    let e = c.in-err-ask-patterns.field-0.0 in
+    let e = c.in_err-ask_patterns.field-0.0 in
     let p = err_from_is_err_and c.from-residual.result c.from-residual.ensures.1 in
-    let no = answer_err (first_no (pattern_questions l m)) e c.in-err-ask-patterns.ensures in
+    let no = answer_err (first_no (pattern_questions l m)) e c.in_err-ask_patterns.ensures in
     let all = first_no_front (pattern_questions l m) ((ltb a l.generators, NumberOutOfRange) ∷ []) e no in
     rw (p.1, p.2) (refused_at (first_no (flip_questions l m a)) m (flip_by l m (flip_set l m.remaining m.opened a)) e all)
 
-flipped : (g : Over) (c : After-qubits-qubits g) → Flipped (g.C.Code.layout c.args.code.now) (model c.args.self.now) c.args.g.0 c.in-Some-best-flip.flip.fall c.qubits-qubits.result.now
+flipped : (g : Over) (c : After-qubits-qubits g) → Flipped (g.C.Code.layout c.args.code.now) (model c.args.self.now) c.args.g.0 c.in-Some-best_flip.flip.fall c.qubits-qubits.result.now
 flipped g c =
     let l = g.C.Code.layout c.args.code.now in
     let m = model c.args.self.now in
     let a = c.args.g.0 in
-    let yes = answer_ok (first_no (pattern_questions l m)) c.in-ok-ask-patterns.ensures in
+    let yes = answer_ok (first_no (pattern_questions l m)) c.in_ok-ask_patterns.ensures in
     let below = size_within l.generators l.of_generator a c.in-Some.-size c.in-Some.ensures in
-    let F = c.in-Some-best-flip.flip in
-    subst (Flipped l m a F.fall) (sym c.qubits-qubits.ensures.value) (flipped_is l m a below yes F.fall (told F).1 c.in-Some-best-flip.ensures)
+    let F = c.in-Some-best_flip.flip in
+    subst (Flipped l m a F.fall) (sym c.qubits-qubits.ensures.value) (flipped_is l m a below yes F.fall (told F).1 c.in-Some-best_flip.ensures)
 
-pub toggle-syndrome-requires : goal.toggle-syndrome-requires
-toggle-syndrome-requires g c =
+pub toggle_syndrome-requires : goal.toggle_syndrome-requires
+toggle_syndrome-requires g c =
     let l = g.C.Code.layout c.args.code.now in
     let m = model c.args.self.now in
-    let yes = answer_ok (first_no (pattern_questions l m)) c.in-ok-ask-patterns.ensures in
-    let f = flipped g (goal.at.toggle-syndrome-requires g c).After-qubits-qubits in
+    let yes = answer_ok (first_no (pattern_questions l m)) c.in_ok-ask_patterns.ensures in
+    let f = flipped g (goal.at.toggle_syndrome-requires g c).After-qubits-qubits in
     ((lengths_asked l m yes).remaining, all_by_has (λ v. v < l.qubits) c.qubits-qubits.result.now f.within, f.apart)
 
 pub returns : goal.returns
@@ -52,7 +52,7 @@ returns g c =
     let l = g.C.Code.layout c.args.code.now in
     let m = model c.args.self.now in
     let a = c.args.g.0 in
-    let yes = answer_ok (first_no (pattern_questions l m)) c.in-ok-ask-patterns.ensures in
+    let yes = answer_ok (first_no (pattern_questions l m)) c.in_ok-ask_patterns.ensures in
     let below = size_within l.generators l.of_generator a c.in-Some.-size c.in-Some.ensures in
-    flip_made l m a below yes c.in-Some-best-flip.flip.fall c.qubits-qubits.result.now (flipped g (goal.at.returns g c).After-qubits-qubits)
-    c.toggle-syndrome.new.remaining c.toggle-all.new.bits c.one-more-self.result c.toggle-syndrome.ensures c.toggle-all.ensures c.one-more-self.ensures
+    flip_made l m a below yes c.in-Some-best_flip.flip.fall c.qubits-qubits.result.now (flipped g (goal.at.returns g c).After-qubits-qubits)
+    c.toggle_syndrome.new.remaining c.toggle_all.new.bits c.one_more-self.result c.toggle_syndrome.ensures c.toggle_all.ensures c.one_more-self.ensures

@@ -8,31 +8,31 @@ use Rattle.moves.specs.Held.{model}
 use Rattle.moves.proofs.Asked.{refused_at, accepted_at, model_same, remaining_fits, opened_fits, correction_width}
 use Rattle.moves.proofs.job.Job.open.Goals as goal
 
-pub returns-in-err-ask-opening : goal.returns-in-err-ask-opening
-returns-in-err-ask-opening g c =
+pub returns-in_err-ask_opening : goal.returns-in_err-ask_opening
+returns-in_err-ask_opening g c =
     let l = g.C.Code.layout c.args.code.now in
     let m = model c.args.self.now in
     let s = c.args.syndrome.now in
     let e = c.args.erasure.now in
     let p = err_from_is_err_and c.from-residual.result c.from-residual.ensures.1 in
-    let no = answer_err (first_no (opening_questions l m s e)) c.in-err-ask-opening.field-0.0 c.in-err-ask-opening.ensures in
-    rw (p.1, p.2) (refused_at (first_no (opening_questions l m s e)) m (Ok tt, opening l s e) c.in-err-ask-opening.field-0.0 no)
+    let no = answer_err (first_no (opening_questions l m s e)) c.in_err-ask_opening.field-0.0 c.in_err-ask_opening.ensures in
+    rw (p.1, p.2) (refused_at (first_no (opening_questions l m s e)) m (Ok tt, opening l s e) c.in_err-ask_opening.field-0.0 no)
 
-pub copy-from-slice-requires : goal.copy-from-slice-requires
-copy-from-slice-requires g c =
+pub copy_from_slice-requires : goal.copy_from_slice-requires
+copy_from_slice-requires g c =
     let l = g.C.Code.layout c.args.code.now in
     let m = model c.args.self.now in
     let s = c.args.syndrome.now in
     let e = c.args.erasure.now in
-    remaining_fits l m s e (answer_ok (first_no (opening_questions l m s e)) c.in-ok-ask-opening.ensures)
+    remaining_fits l m s e (answer_ok (first_no (opening_questions l m s e)) c.in_ok-ask_opening.ensures)
 
-pub copy-from-slice-requires-2 : goal.copy-from-slice-requires-2
-copy-from-slice-requires-2 g c =
+pub copy_from_slice-requires-2 : goal.copy_from_slice-requires-2
+copy_from_slice-requires-2 g c =
     let l = g.C.Code.layout c.args.code.now in
     let m = model c.args.self.now in
     let s = c.args.syndrome.now in
     let e = c.args.erasure.now in
-    opened_fits l m s e (answer_ok (first_no (opening_questions l m s e)) c.in-ok-ask-opening.ensures)
+    opened_fits l m s e (answer_ok (first_no (opening_questions l m s e)) c.in_ok-ask_opening.ensures)
 
 pub returns : goal.returns
 returns g c =
@@ -40,7 +40,7 @@ returns g c =
     let m = model c.args.self.now in
     let s = c.args.syndrome.now in
     let e = c.args.erasure.now in
-    let yes = answer_ok (first_no (opening_questions l m s e)) c.in-ok-ask-opening.ensures in
+    let yes = answer_ok (first_no (opening_questions l m s e)) c.in_ok-ask_opening.ensures in
     let cleared = c.fill.ensures.after (λ y e. e) ∙ ap (λ n. replicate n 0) (correction_width l m s e yes) ∙ filled_nothing l.qubits in
-    ap (λ a. (Ok tt, a)) (model_same c.copy-from-slice.ensures.after c.copy-from-slice-2.ensures.after cleared refl)
+    ap (λ a. (Ok tt, a)) (model_same c.copy_from_slice.ensures.after c.copy_from_slice-2.ensures.after cleared refl)
     ∙ accepted_at (first_no (opening_questions l m s e)) m (Ok tt, opening l s e) yes

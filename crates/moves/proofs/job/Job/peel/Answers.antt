@@ -16,25 +16,25 @@ use Rattle.moves.proofs.Peels.{half_way, peeled_below, peel_made, peel_accepted}
 use Rattle.moves.proofs.job.Job.peel.Goals as goal
 use Rattle.moves.proofs.job.Job.peel.Goals.{then-changes, else-changes}
 
-pub returns-in-err-ask-patterns : goal.returns-in-err-ask-patterns
-returns-in-err-ask-patterns g c =
+pub returns-in_err-ask_patterns : goal.returns-in_err-ask_patterns
+returns-in_err-ask_patterns g c =
     let l = g.C.Code.layout c.args.code.now in
     let m = model c.args.self.now in
     let u = c.args.u.0 in
-    let e = c.in-err-ask-patterns.field-0.0 in
+    let e = c.in_err-ask_patterns.field-0.0 in
     let p = err_from_is_err_and c.from-residual.result c.from-residual.ensures.1 in
-    let no = answer_err (first_no (pattern_questions l m)) e c.in-err-ask-patterns.ensures in
+    let no = answer_err (first_no (pattern_questions l m)) e c.in_err-ask_patterns.ensures in
     let all = first_no_front (pattern_questions l m) ((ltb u l.checks, NumberOutOfRange) ∷ []) e no in
     rw (p.1, p.2) (refused_at (first_no (peel_questions l m u)) m (peel_by l m u (single (meeting l (member m.opened) u))) e all)
 
-pub toggle-checks-requires : goal.toggle-checks-requires
-toggle-checks-requires g c =
+pub toggle_checks-requires : goal.toggle_checks-requires
+toggle_checks-requires g c =
     let l = g.C.Code.layout c.args.code.now in
     let m = model c.args.self.now in
     let u = c.args.u.0 in
-    let yes = answer_ok (first_no (pattern_questions l m)) c.in-ok-ask-patterns.ensures in
+    let yes = answer_ok (first_no (pattern_questions l m)) c.in_ok-ask_patterns.ensures in
     let within = size_within l.checks l.of_check u c.in-Some.-size c.in-Some.ensures in
-    (peeled_below l (g.met.C.Code.sound c.args.code.now) m u c.in-Some-only-open.v.0 within (c.in-Some-only-open.ensures ∙ only_one_of l (member m.opened) u within), (lengths_asked l m yes).remaining)
+    (peeled_below l (g.met.C.Code.sound c.args.code.now) m u c.in-Some-only_open.v.0 within (c.in-Some-only_open.ensures ∙ only_one_of l (member m.opened) u within), (lengths_asked l m yes).remaining)
 
 pub returns : goal.returns
 returns g c =
@@ -42,15 +42,15 @@ returns g c =
     let sound = g.met.C.Code.sound c.args.code.now in
     let m = model c.args.self.now in
     let u = c.args.u.0 in
-    let v = c.in-Some-only-open.v.0 in
-    let yes = answer_ok (first_no (pattern_questions l m)) c.in-ok-ask-patterns.ensures in
+    let v = c.in-Some-only_open.v.0 in
+    let yes = answer_ok (first_no (pattern_questions l m)) c.in_ok-ask_patterns.ensures in
     let within = size_within l.checks l.of_check u c.in-Some.-size c.in-Some.ensures in
-    let only = c.in-Some-only-open.ensures ∙ only_one_of l (member m.opened) u within in
+    let only = c.in-Some-only_open.ensures ∙ only_one_of l (member m.opened) u within in
     let changes = c.remains-changes.result in
     let was : model c.if-changes.self ≡ half_way l m v changes = elim c.if-changes.branch [
-      | then-changes w ↦ ap model w.self-is ∙ model_same w.toggle-checks.ensures refl w.toggle.ensures.after refl ∙ sym (ap (half_way l m v) w.if-changes.true)
+      | then-changes w ↦ ap model w.self-is ∙ model_same w.toggle_checks.ensures refl w.toggle.ensures.after refl ∙ sym (ap (half_way l m v) w.if-changes.true)
       | else-changes w ↦ ap model w.self-is ∙ sym (ap (half_way l m v) w.if-changes.false)
     ] in
-    let after = peel_made l sound m u v within only (lengths_asked l m yes) changes c.remains-changes.ensures (model c.if-changes.self) was c.toggle-2.new.bits c.toggle-2.ensures.after c.one-more-self.result c.one-more-self.ensures in
+    let after = peel_made l sound m u v within only (lengths_asked l m yes) changes c.remains-changes.ensures (model c.if-changes.self) was c.toggle-2.new.bits c.toggle-2.ensures.after c.one_more-self.result c.one_more-self.ensures in
     ap₂ (λ x j. (Ok (v, x), j)) (c.from.ensures ∙ bit_byte changes ∙ ap (λ b. cond b 1 0) c.remains-changes.ensures) after
     ∙ peel_accepted l sound m u v within only yes

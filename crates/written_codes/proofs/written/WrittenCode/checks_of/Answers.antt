@@ -4,7 +4,7 @@ use Rattle.matrices.proofs.Tables.{size_short}
 use Rattle.codes.specs.Layouts.{most_weight}
 use Rattle.written_codes.proofs.written.WrittenCode.checks_of.Goals as goal
 
-pub overflow-cast-result : goal.overflow-cast-result
-overflow-cast-result c =
+pub overflow_cast-result : goal.overflow_cast-result
+overflow_cast-result c =
     let w = c.args.self.now in
-    omega (arith, size_short most_weight (lists w.checks.columns.nodes) w.light_in_checks c.args.v.0 c.in-ok-size.size c.in-ok-size.ensures)
+    omega (arith, size_short most_weight (lists w.checks.columns.nodes) w.light_in_checks c.args.v.0 c.in_ok-size.size c.in_ok-size.ensures)
