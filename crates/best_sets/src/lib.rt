@@ -1,6 +1,7 @@
 // The best of the sets of a few qubits. A qubit is a row of three words, whose ones are the checks that change with the qubit.
 // The words that a set leaves are those at the start with its rows added, and its weight is how many ones are left.
 #![tactic(auto)]
+
 ghost use Rattle.std.specs.Prelude.{◌≡◌, ◌+◌, ◌*◌, ◌^◌, ◌<◌, ◌≤◌, [], ◌∷◌, length, if◌then◌else◌};
 ghost use Rattle.best_sets.specs.Best.{BestIsUnbeaten};
 ghost use Rattle.best_sets.specs.Walk.{changed_by, weighed, wins, walked, walk_of};
@@ -88,8 +89,8 @@ fn best_of_four(
 // The best of `best` and of every set that adds some of the rows to the set of this size and this number, which leaves `left`.
 // The last two rows are written out, for speed.
 fn best_from(rows: &[[u64; 3]], left: [u64; 3], size: u32, picks: u32, best: Choice) -> Choice
-    requires rows_bound { size + length rows.now ≤ 12 }
-    requires rows_bound_2 { (picks + 1) * 2 ^ length rows.now ≤ 4096 }
+    requires few_rows { size + length rows.now ≤ 12 }
+    requires few_sets { (picks + 1) * 2 ^ length rows.now ≤ 4096 }
     ensures { result ≡ walked rows.now left size picks best }
 {
     match rows {

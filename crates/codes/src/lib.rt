@@ -1,5 +1,6 @@
 // Codes: what every code tells, how large one may be, bare codes, and codes with checks and generators exchanged.
 #![tactic(auto)]
+
 pub mod bare;
 pub mod code;
 pub mod exchanged;

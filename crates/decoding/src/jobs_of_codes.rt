@@ -16,8 +16,8 @@ use std::alloc::Global;
 
 // Writes the report of a job after a run.
 fn report<C: Code>(code: &C, job: &Job, ran: Run, out: &mut [u8]) -> Result<usize, Refusal>
-    ensures value { result ≡ report_answer (told_of symbol (layout code.now) ran (model job.now)) out.old }
-    ensures after { out.new ≡ report_output (told_of symbol (layout code.now) ran (model job.now)) out.old }
+    ensures value { result ≡ report_answer (told_of C.symbol (C.layout code.now) ran (model job.now)) out.old }
+    ensures after { out.new ≡ report_output (told_of C.symbol (C.layout code.now) ran (model job.now)) out.old }
 {
     let report = Report {
         verdict: ran.verdict,
@@ -38,8 +38,8 @@ fn work<C: Code>(
     erasure: &[u8],
     out: &mut [u8],
 ) -> Result<usize, Refusal>
-    ensures value { result ≡ decoded_answer symbol (layout code.now) (decoded (layout code.now) (model job.old) syndrome.now erasure.now) out.old }
-    ensures after { out.new ≡ decoded_output symbol (layout code.now) (decoded (layout code.now) (model job.old) syndrome.now erasure.now) out.old }
+    ensures value { result ≡ decoded_answer C.symbol (C.layout code.now) (decoded (C.layout code.now) (model job.old) syndrome.now erasure.now) out.old }
+    ensures after { out.new ≡ decoded_output C.symbol (C.layout code.now) (decoded (C.layout code.now) (model job.old) syndrome.now erasure.now) out.old }
 {
     job.open(code, syndrome, erasure)?;
     let ran = run(code, job)?;
@@ -55,9 +55,9 @@ pub fn decode<C: Code>(
     out: &mut [u8],
 ) -> Result<usize, Refusal>
     ensures value { UnlessNoMemory result out.old out.new
-        (decoded_answer symbol (layout code.now) (decoded (layout code.now) (blank (layout code.now)) syndrome.now erasure.now) out.old)
-        (decoded_output symbol (layout code.now) (decoded (layout code.now) (blank (layout code.now)) syndrome.now erasure.now) out.old) }
-    ensures well_formed { WellFormedDecode symbol (layout code.now) }
+        (decoded_answer C.symbol (C.layout code.now) (decoded (C.layout code.now) (blank (C.layout code.now)) syndrome.now erasure.now) out.old)
+        (decoded_output C.symbol (C.layout code.now) (decoded (C.layout code.now) (blank (C.layout code.now)) syndrome.now erasure.now) out.old) }
+    ensures well_formed { WellFormedDecode C.symbol (C.layout code.now) }
 {
     let checks = width(code.checks());
     let qubits = width(code.qubits());

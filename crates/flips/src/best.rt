@@ -22,11 +22,11 @@ pub(crate) struct Best {
 // For each qubit the places of its checks among `checks`.
 fn rows_of<C: Code>(code: &C, qubits: &[u32], checks: &[u32]) -> [[u64; 3]; 12]
     requires qubits_len_bound { length qubits.now ≤ 12 }
-    requires all { All (λ v. v < (layout code.now).qubits) qubits.now }
+    requires in_range { All (λ v. v < (C.layout code.now).qubits) qubits.now }
     requires checks_len_bound { length checks.now ≤ 144 }
     requires apart { Apart checks.now }
     ensures long { length result ≡ 12 }
-    ensures rows { Rows (layout code.now) checks.now qubits.now (take (length qubits.now) result) }
+    ensures rows { Rows (C.layout code.now) checks.now qubits.now (take (length qubits.now) result) }
 {
     let mut rows = [[0u64; 3]; 12];
     for (i, v) in qubits.iter().enumerate() {
@@ -37,12 +37,12 @@ fn rows_of<C: Code>(code: &C, qubits: &[u32], checks: &[u32]) -> [[u64; 3]; 12]
 
 // The best set of the qubits, which rise; there is always one.
 pub(crate) fn best_of<C: Code>(code: &C, remaining: &[u8], qubits: &[u32]) -> Option<Best>
-    requires remaining_value { fitting (layout code.now).checks remaining.now ≡ true }
-    requires remaining_value_2 { tidy (layout code.now).checks remaining.now ≡ true }
+    requires fits { fitting (C.layout code.now).checks remaining.now ≡ true }
+    requires unused_zero { tidy (C.layout code.now).checks remaining.now ≡ true }
     requires qubits_len_bound { length qubits.now ≤ 12 }
     requires rising { Rising qubits.now }
-    requires all { All (λ v. v < (layout code.now).qubits) qubits.now }
-    ensures { MatchOption result ⊥ (λ b. BestBy (left_by (layout code.now) remaining.now) qubits.now b.fall b.picks) }
+    requires in_range { All (λ v. v < (C.layout code.now).qubits) qubits.now }
+    ensures { MatchOption result ⊥ (λ b. BestBy (left_by (C.layout code.now) remaining.now) qubits.now b.fall b.picks) }
 {
     let mut checks = [0u32; 144];
     let count = local_checks(code, qubits, &mut checks);

@@ -43,7 +43,7 @@ fn selected(qubits: &[u32], picks: u32, fall: u32) -> Flip
 
 // The best set of the open qubits of the generator, if it lowers the weight of the remaining syndrome.
 pub fn best_flip<C: Code>(code: &C, remaining: &[u8], opened: &[u8], g: Generator) -> Option<Flip>
-    ensures { option_map told result ≡ best_flip (layout code.now) remaining.now opened.now g.0 }
+    ensures { option_map told result ≡ best_flip (C.layout code.now) remaining.now opened.now g.0 }
 {
     let checks = code.checks();
     if !fits(remaining, checks) || !unused_are_zero(remaining, checks) || g.0 >= code.generators() {

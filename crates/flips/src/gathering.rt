@@ -33,10 +33,10 @@ pub(crate) fn place(list: &[u32], u: u32) -> Option<usize>
 
 // Adds the checks of v that are not among the first `count` yet; answers how many there are then.
 fn gather<C: Code>(code: &C, v: Qubit, checks: &mut [u32], count: usize) -> usize
-    requires v_bound { v.0 < (layout code.now).qubits }
+    requires v_bound { v.0 < (C.layout code.now).qubits }
     requires checks_len { length checks.old ≡ 144 }
     requires count_bound { count ≤ 132 }
-    ensures is { take result checks.new ≡ gathered (take count checks.old) ((layout code.now).checks_of v.0) }
+    ensures is { take result checks.new ≡ gathered (take count checks.old) ((C.layout code.now).checks_of v.0) }
     ensures few { result ≤ count + 12 }
 {
     let mut n = count;
@@ -55,9 +55,9 @@ fn gather<C: Code>(code: &C, v: Qubit, checks: &mut [u32], count: usize) -> usiz
 // The checks that meet the qubits, each once, in front of the array; answers how many they are.
 pub(crate) fn local_checks<C: Code>(code: &C, qubits: &[u32], checks: &mut [u32]) -> usize
     requires qubits_len_bound { length qubits.now ≤ 12 }
-    requires all { All (λ v. v < (layout code.now).qubits) qubits.now }
+    requires in_range { All (λ v. v < (C.layout code.now).qubits) qubits.now }
     requires checks_len { length checks.old ≡ 144 }
-    ensures is { take result checks.new ≡ local_checks (layout code.now) [] qubits.now }
+    ensures is { take result checks.new ≡ local_checks (C.layout code.now) [] qubits.now }
     ensures few { result ≤ 144 }
 {
     let mut count = 0;

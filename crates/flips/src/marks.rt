@@ -19,10 +19,10 @@ fn mark(words: &mut [u64], j: usize)
 
 // The places of the checks of v among `checks`.
 pub(crate) fn row<C: Code>(code: &C, v: Qubit, checks: &[u32]) -> [u64; 3]
-    requires v_bound { v.0 < (layout code.now).qubits }
+    requires v_bound { v.0 < (C.layout code.now).qubits }
     requires checks_len_bound { length checks.now ≤ 144 }
     requires apart { Apart checks.now }
-    ensures { Marks checks.now (has ((layout code.now).checks_of v.0)) result }
+    ensures { Marks checks.now (has ((C.layout code.now).checks_of v.0)) result }
 {
     let mut words = [0u64; 3];
     for k in 0..MOST_WEIGHT {

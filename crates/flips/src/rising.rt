@@ -32,9 +32,9 @@ pub(crate) fn open_qubits<C: Code>(
     g: Generator,
     qubits: &mut [u32],
 ) -> usize
-    requires g_bound { g.0 < (layout code.now).generators }
+    requires g_bound { g.0 < (C.layout code.now).generators }
     requires qubits_len { length qubits.old ≡ 12 }
-    ensures is { take result qubits.new ≡ open_in (layout code.now) (member opened.now) g.0 }
+    ensures is { take result qubits.new ≡ open_in (C.layout code.now) (member opened.now) g.0 }
     ensures few { result ≤ 12 }
 {
     let mut n = 0;

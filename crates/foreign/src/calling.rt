@@ -13,14 +13,14 @@ use moves::job::Job;
 
 // Asks for the verdict, which leaves the job as it is.
 fn ask_on<C: Code>(code: &C, job: &Job) -> Numbers
-    ensures { (result, model job.now) ≡ numbered (call (layout code.now) (model job.now) ask) }
+    ensures { (result, model job.now) ≡ numbered (call (C.layout code.now) (model job.now) ask) }
 {
     Numbers::of_verdict(verdict(code, job))
 }
 
 // Makes the call that is asked.
 pub(crate) fn answer_on<C: Code>(code: &C, job: &mut Job, asked: Asked) -> Numbers
-    ensures { (result, model job.new) ≡ numbered (call (layout code.now) (model job.old) (call_of asked)) }
+    ensures { (result, model job.new) ≡ numbered (call (C.layout code.now) (model job.old) (call_of asked)) }
 {
     match asked.call {
         0 => Numbers::of_peel(job.peel(code, Check(asked.first))),
@@ -33,7 +33,7 @@ pub(crate) fn answer_on<C: Code>(code: &C, job: &mut Job, asked: Asked) -> Numbe
 
 // Opens the job new.
 pub(crate) fn open_on<C: Code>(code: &C, job: &mut Job, syndrome: &[u8], erasure: &[u8]) -> Numbers
-    ensures { (result, model job.new) ≡ reopened (layout code.now) (model job.old) syndrome.now erasure.now }
+    ensures { (result, model job.new) ≡ reopened (C.layout code.now) (model job.old) syndrome.now erasure.now }
 {
     Numbers::of_acceptance(job.open(code, syndrome, erasure))
 }
@@ -47,7 +47,7 @@ pub(crate) struct Task<'a> {
 }
 
 pub(crate) fn act_on<C: Code>(code: &C, job: &mut Job, task: Task<'_>) -> Numbers
-    ensures { (result, model job.new) ≡ done (layout code.now) (model job.old) task.entry }
+    ensures { (result, model job.new) ≡ done (C.layout code.now) (model job.old) task.entry }
 {
     match task.asked {
         Some(asked) => answer_on(code, job, asked),

@@ -33,7 +33,7 @@ fn not_made(e: Refusal) -> Numbers
 }
 
 fn on_graph<G: Graph + Drop>(shape: Shape, graph: G, job: &mut Job, task: Task<'_>) -> Numbers
-    ensures { (result, model job.new) ≡ done (shaped shape (tanner graph)) (model job.old) task.entry }
+    ensures { (result, model job.new) ≡ done (shaped shape (G.tanner graph)) (model job.old) task.entry }
 {
     match shape {
         Shape::Product => act_on(&Product::of(graph), job, task),

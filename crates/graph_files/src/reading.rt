@@ -81,9 +81,9 @@ fn ask_rows(checks: u32, matrix: BitRows<'_>) -> Result<(), Refusal>
 
 // The graph of rows that were asked.
 fn build(heap: Global, checks: u32, matrix: BitRows<'_>) -> Result<Matrix, Refusal>
-    requires checks_value { counted checks ≡ true }
-    requires columns_value { counted matrix.columns ≡ true }
-    requires bytes_value { first_no (row_questions checks matrix.columns matrix.bytes.now) ≡ None }
+    requires checks_counted { counted checks ≡ true }
+    requires columns_counted { counted matrix.columns ≡ true }
+    requires accepted { first_no (row_questions checks matrix.columns matrix.bytes.now) ≡ None }
     ensures { MatchResult result (λ g. graph_of g ≡ rows_graph checks matrix.entry.columns matrix.entry.bytes.now) (λ e. e ≡ OutOfMemory) }
 {
     let relation = Relation::of(heap, matrix, checks)?;

@@ -26,9 +26,9 @@ fn write_head(variables: u32, checks: u32, out: &mut [u8])
 
 // The pattern of the variables of check p.
 fn write_row<G: Graph>(graph: &G, p: CheckNode, row: &mut [u8])
-    requires p_bound { p.0 < (tanner graph.now).checks }
-    requires row_len { length row.old ≡ width (tanner graph.now).variables }
-    ensures { row.new ≡ row_of (tanner graph.now) p.0 }
+    requires p_bound { p.0 < (G.tanner graph.now).checks }
+    requires row_len { length row.old ≡ width (G.tanner graph.now).variables }
+    ensures { row.new ≡ row_of (G.tanner graph.now) p.0 }
 {
     row.fill(0);
     for k in 0..MOST_NEIGHBOURS {
@@ -40,8 +40,8 @@ fn write_row<G: Graph>(graph: &G, p: CheckNode, row: &mut [u8])
 }
 
 fn write_rows<G: Graph>(graph: &G, rows: &mut [u8])
-    requires { length rows.old ≡ (tanner graph.now).checks * width (tanner graph.now).variables }
-    ensures { rows.new ≡ rows_of (tanner graph.now) (tanner graph.now).checks }
+    requires { length rows.old ≡ (G.tanner graph.now).checks * width (G.tanner graph.now).variables }
+    ensures { rows.new ≡ rows_of (G.tanner graph.now) (G.tanner graph.now).checks }
 {
     let width = width(graph.variables());
     for p in 0..graph.checks() {
@@ -52,9 +52,9 @@ fn write_rows<G: Graph>(graph: &G, rows: &mut [u8])
 
 // Writes the file of the graph at the front of `out`; answers how many bytes it wrote.
 pub fn write_graph<G: Graph>(graph: &G, out: &mut [u8]) -> Result<usize, Refusal>
-    ensures value { result ≡ answered (file_of (tanner graph.now)) out.old }
-    ensures after { out.new ≡ written (file_of (tanner graph.now)) out.old }
-    ensures reads_back { WrittenIsRead (tanner graph.now) }
+    ensures value { result ≡ answered (file_of (G.tanner graph.now)) out.old }
+    ensures after { out.new ≡ written (file_of (G.tanner graph.now)) out.old }
+    ensures reads_back { WrittenIsRead (G.tanner graph.now) }
 {
     let variables = graph.variables();
     let checks = graph.checks();

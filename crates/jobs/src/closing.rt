@@ -29,8 +29,8 @@ pub(crate) struct Cursors {
 impl Cursors {
     // The cursors after the step. Closing a qubit can make only its own checks dangling, and no generator wholly open.
     fn after<C: Code>(self, code: &C, step: Closing) -> Cursors
-        requires { shut_by step < (layout code.now).qubits }
-        ensures { result ≡ cursors_after (layout code.now) self step }
+        requires { shut_by step < (C.layout code.now).qubits }
+        ensures { result ≡ cursors_after (C.layout code.now) self step }
     {
         match step {
             Closing::Peel(u, v) => Cursors {
@@ -66,8 +66,8 @@ impl Counts {
 
 // The next step: a peel of the lowest dangling check; else a prune of the lowest generator that is all open, at its lowest qubit.
 fn next_closing<C: Code>(code: &C, job: &Job, from: Cursors) -> Option<Closing>
-    requires { Passed (layout code.now) (model job.now) from }
-    ensures { NextClosing (layout code.now) (model job.now) result }
+    requires { Passed (C.layout code.now) (model job.now) from }
+    ensures { NextClosing (C.layout code.now) (model job.now) result }
 {
     if let Some((u, v)) = lowest_dangling(code, job, from.check) {
         return Some(Closing::Peel(u, v));
@@ -78,7 +78,7 @@ fn next_closing<C: Code>(code: &C, job: &Job, from: Cursors) -> Option<Closing>
 
 // Makes the step, by the call that a single move is made with; a refused one leaves the job as it was.
 fn make<C: Code>(code: &C, job: &mut Job, step: Closing)
-    ensures { model job.new ≡ moved (layout code.now) (model job.old) (as_move step) }
+    ensures { model job.new ≡ moved (C.layout code.now) (model job.old) (as_move step) }
 {
     match step {
         Closing::Peel(u, _) => {
@@ -92,9 +92,9 @@ fn make<C: Code>(code: &C, job: &mut Job, step: Closing)
 
 // Peels and prunes until neither applies; answers how many of each there were.
 pub(crate) fn close_all<C: Code>(code: &C, job: &mut Job) -> Counts
-    requires { first_no (pattern_questions (layout code.now) (model job.old)) ≡ None }
-    ensures came { Came (layout code.now) none_yet (model job.old) result (model job.new) }
-    ensures closed { NothingCloses (layout code.now) (model job.new) }
+    requires { first_no (pattern_questions (C.layout code.now) (model job.old)) ≡ None }
+    ensures came { Came (C.layout code.now) none_yet (model job.old) result (model job.new) }
+    ensures closed { NothingCloses (C.layout code.now) (model job.new) }
 {
     let mut counts = Counts {
         peels: 0,

@@ -15,11 +15,11 @@ use moves::job::Job;
 
 // Flips until no generator has a set lowering the weight; answers the counts with these flips. A flip leaves the open qubits, so nothing can be closed after it either.
 pub(crate) fn flip_all<C: Code>(code: &C, job: &mut Job, counts: Counts) -> Counts
-    requires patterns { first_no (pattern_questions (layout code.now) (model job.old)) ≡ None }
-    requires closed { NothingCloses (layout code.now) (model job.old) }
+    requires patterns { first_no (pattern_questions (C.layout code.now) (model job.old)) ≡ None }
+    requires closed { NothingCloses (C.layout code.now) (model job.old) }
     requires few { together counts + enough (model job.old) < 2 ^ 32 }
-    ensures came { Came (layout code.now) counts (model job.old) result (model job.new) }
-    ensures ended { next (layout code.now) (model job.new) ≡ None }
+    ensures came { Came (C.layout code.now) counts (model job.old) result (model job.new) }
+    ensures ended { next (C.layout code.now) (model job.new) ≡ None }
 {
     let mut flips = counts.flips;
     while let Some(g) = lowest_lowerable(code, job, 0) {

@@ -20,11 +20,11 @@ use refusals::Refusal;
 
 // Makes moves until none applies; answers how many of each kind there were.
 fn make_all<C: Code>(code: &C, job: &mut Job) -> Counts
-    requires { first_no (pattern_questions (layout code.now) (model job.old)) ≡ None }
-    ensures value { result ≡ counts_of (run_moves (layout code.now) (model job.old)) }
-    ensures after { model job.new ≡ moved_all (layout code.now) (model job.old) (run_moves (layout code.now) (model job.old)) }
-    ensures patterns { first_no (pattern_questions (layout code.now) (model job.new)) ≡ None }
-    ensures ended { next (layout code.now) (model job.new) ≡ None }
+    requires { first_no (pattern_questions (C.layout code.now) (model job.old)) ≡ None }
+    ensures value { result ≡ counts_of (run_moves (C.layout code.now) (model job.old)) }
+    ensures after { model job.new ≡ moved_all (C.layout code.now) (model job.old) (run_moves (C.layout code.now) (model job.old)) }
+    ensures patterns { first_no (pattern_questions (C.layout code.now) (model job.new)) ≡ None }
+    ensures ended { next (C.layout code.now) (model job.new) ≡ None }
 {
     let counts = close_all(code, job);
     flip_all(code, job, counts)
@@ -33,9 +33,9 @@ fn make_all<C: Code>(code: &C, job: &mut Job) -> Counts
 // Runs the job until no move applies: how many moves of each kind it made, and the verdict after them.
 // A run of any job ends where no move applies, and two jobs from one opening agree, whatever was called on each.
 pub fn run<C: Code>(code: &C, job: &mut Job) -> Result<Run, Refusal>
-    ensures value { (result, model job.new) ≡ run_of (layout code.now) (model job.old) }
-    ensures ends { RunEnds (layout code.now) }
-    ensures agree { TwoJobs (layout code.now) }
+    ensures value { (result, model job.new) ≡ run_of (C.layout code.now) (model job.old) }
+    ensures ends { RunEnds (C.layout code.now) }
+    ensures agree { TwoJobs (C.layout code.now) }
 {
     job.ask_patterns(code)?;
     let Counts {

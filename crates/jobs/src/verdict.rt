@@ -30,15 +30,15 @@ fn has_some(bits: &[u8], count: u32) -> bool
 
 // Whether the check is in the remaining syndrome, and none of its qubits is open.
 fn is_unmet<C: Code>(code: &C, job: &Job, u: Check) -> bool
-    requires { u.0 < (layout code.now).checks }
-    ensures { result ≡ unmet (layout code.now) (model job.now) u.0 }
+    requires { u.0 < (C.layout code.now).checks }
+    ensures { result ≡ unmet (C.layout code.now) (model job.now) u.0 }
 {
     contains(job.remaining, u.0) && !meets(code, job.opened, u)
 }
 
 // Whether there is a check that no change of open qubits can meet.
 fn is_contradicted<C: Code>(code: &C, job: &Job) -> bool
-    ensures { result ≡ some_below (layout code.now).checks (unmet (layout code.now) (model job.now)) }
+    ensures { result ≡ some_below (C.layout code.now).checks (unmet (C.layout code.now) (model job.now)) }
 {
     for u in 0..code.checks() {
         if is_unmet(code, job, Check(u)) {
@@ -50,8 +50,8 @@ fn is_contradicted<C: Code>(code: &C, job: &Job) -> bool
 
 // The verdict on a job whose patterns are well formed: the first that fits.
 pub(crate) fn standing<C: Code>(code: &C, job: &Job) -> Verdict
-    requires { first_no (pattern_questions (layout code.now) (model job.now)) ≡ None }
-    ensures { result ≡ verdict (layout code.now) (model job.now) }
+    requires { first_no (pattern_questions (C.layout code.now) (model job.now)) ≡ None }
+    ensures { result ≡ verdict (C.layout code.now) (model job.now) }
 {
     if is_contradicted(code, job) {
         return Verdict::Contradicted;
@@ -73,8 +73,8 @@ pub(crate) fn standing<C: Code>(code: &C, job: &Job) -> Verdict
 
 // The verdict on a job, which stays as it is. A job is stalled exactly when something remains, no move applies and nothing is contradicted.
 pub fn verdict<C: Code>(code: &C, job: &Job) -> Result<Verdict, Refusal>
-    ensures value { result ≡ (verdict_of (layout code.now) (model job.now)).0 }
-    ensures stalled { StalledExactly (layout code.now) }
+    ensures value { result ≡ (verdict_of (C.layout code.now) (model job.now)).0 }
+    ensures stalled { StalledExactly (C.layout code.now) }
 {
     job.ask_patterns(code)?;
     Ok(standing(code, job))

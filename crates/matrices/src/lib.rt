@@ -1,5 +1,6 @@
 // Matrices of bits, and the lists of what each of their rows and columns holds.
 #![tactic(auto)]
+
 pub mod lists;
 pub mod relation;
 pub mod rows;

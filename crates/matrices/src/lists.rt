@@ -16,7 +16,7 @@ pub struct Lists {
 
 // Those of the first `columns` numbers that are joined to `a`, in rising order.
 fn gather<M: Incidence>(heap: Global, m: &M, a: u32, columns: u32) -> Result<Vec<u32>, Refusal>
-    ensures { MatchResult result (λ v. v.items ≡ members columns (joined m.now a)) (λ e. e ≡ OutOfMemory) }
+    ensures { MatchResult result (λ v. v.items ≡ members columns (M.joined m.now a)) (λ e. e ≡ OutOfMemory) }
 {
     let mut list = Vec::new(heap);
     for b in 0..columns {
@@ -30,7 +30,7 @@ fn gather<M: Incidence>(heap: Global, m: &M, a: u32, columns: u32) -> Result<Vec
 impl Lists {
     // The lists of the first `rows` numbers over the first `columns`, in rising order.
     pub fn of<M: Incidence>(heap: Global, m: &M, rows: u32, columns: u32) -> Result<Lists, Refusal>
-        ensures { MatchResult result (λ l. lists l.nodes ≡ tabled rows columns (joined m.now)) (λ e. e ≡ OutOfMemory) }
+        ensures { MatchResult result (λ l. lists l.nodes ≡ tabled rows columns (M.joined m.now)) (λ e. e ≡ OutOfMemory) }
     {
         let mut nodes = Vec::new(heap);
         for a in 0..rows {

@@ -70,7 +70,7 @@ impl<'a> Incidence for BitColumns<'a> {
 
 // How many of the first `columns` numbers are joined to `a`.
 pub fn count_joined<M: Incidence>(m: &M, a: u32, columns: u32) -> u32
-    ensures { result ≡ tally columns (joined m.now a) }
+    ensures { result ≡ tally columns (M.joined m.now a) }
 {
     let mut count = 0;
     for b in 0..columns {
@@ -83,7 +83,7 @@ pub fn count_joined<M: Incidence>(m: &M, a: u32, columns: u32) -> u32
 
 // Whether each of the first `rows` numbers is joined to at most `most` of the first `columns`.
 pub fn joined_to_few<M: Incidence>(m: &M, rows: u32, columns: u32, most: u32) -> bool
-    ensures { result ≡ few most rows columns (joined m.now) }
+    ensures { result ≡ few most rows columns (M.joined m.now) }
 {
     for a in 0..rows {
         if count_joined(m, a, columns) > most {

@@ -22,7 +22,7 @@ use scans::generators::all_held;
 impl<'a> Job<'a> {
     // Whether the patterns have their lengths, and then whether their unused bits are zero.
     pub fn ask_patterns<C: Code>(&self, code: &C) -> Result<(), Refusal>
-        ensures { result ≡ answer (first_no (pattern_questions (layout code.now) (model self.now))) }
+        ensures { result ≡ answer (first_no (pattern_questions (C.layout code.now) (model self.now))) }
     {
         let qubits = code.qubits();
         let checks = code.checks();
@@ -50,21 +50,21 @@ impl<'a> Job<'a> {
 
     // The one open qubit of the check, if there is just one.
     pub(crate) fn only_open<C: Code>(&self, code: &C, u: Check) -> Option<Qubit>
-        ensures { option_map (λ v. v.0) result ≡ only_one (layout code.now) (member (model self.now).opened) u.0 }
+        ensures { option_map (λ v. v.0) result ≡ only_one (C.layout code.now) (member (model self.now).opened) u.0 }
     {
         only_one(code, self.opened, u)
     }
 
     // Whether all qubits of the generator are open.
     pub(crate) fn all_open<C: Code>(&self, code: &C, g: Generator) -> bool
-        ensures { result ≡ all_held (layout code.now) (member (model self.now).opened) g.0 }
+        ensures { result ≡ all_held (C.layout code.now) (member (model self.now).opened) g.0 }
     {
         all_held(code, self.opened, g)
     }
 
     // The best set of the generator's open qubits, if it lowers the weight of the remaining syndrome.
     pub(crate) fn best_flip<C: Code>(&self, code: &C, g: Generator) -> Option<Flip>
-        ensures { option_map told result ≡ best_flip (layout code.now) (model self.now).remaining (model self.now).opened g.0 }
+        ensures { option_map told result ≡ best_flip (C.layout code.now) (model self.now).remaining (model self.now).opened g.0 }
     {
         best_flip(code, self.remaining, self.opened, g)
     }

@@ -11,9 +11,9 @@ use patterns::items::toggle;
 
 // Changes every check of qubit v.
 pub(crate) fn toggle_checks<C: Code>(code: &C, remaining: &mut [u8], v: Qubit)
-    requires v_bound { v.0 < (layout code.now).qubits }
-    requires remaining_value { fitting (layout code.now).checks remaining.old ≡ true }
-    ensures { remaining.new ≡ added (layout code.now).checks remaining.old (has ((layout code.now).checks_of v.0)) }
+    requires v_bound { v.0 < (C.layout code.now).qubits }
+    requires fits { fitting (C.layout code.now).checks remaining.old ≡ true }
+    ensures { remaining.new ≡ added (C.layout code.now).checks remaining.old (has ((C.layout code.now).checks_of v.0)) }
 {
     for k in 0..MOST_WEIGHT {
         let Some(u) = code.qubit_check(v, k) else {
@@ -34,10 +34,10 @@ pub(crate) fn toggle_all(bits: &mut [u8], items: &[u32])
 
 // Changes every check that holds an odd number of the qubits.
 pub(crate) fn toggle_syndrome<C: Code>(code: &C, remaining: &mut [u8], qubits: &[u32])
-    requires remaining_value { fitting (layout code.now).checks remaining.old ≡ true }
-    requires all { All (λ v. v < (layout code.now).qubits) qubits.now }
+    requires fits { fitting (C.layout code.now).checks remaining.old ≡ true }
+    requires in_range { All (λ v. v < (C.layout code.now).qubits) qubits.now }
     requires apart { Apart qubits.now }
-    ensures { remaining.new ≡ remaining_after (layout code.now) remaining.old qubits.now }
+    ensures { remaining.new ≡ remaining_after (C.layout code.now) remaining.old qubits.now }
 {
     for v in qubits {
         toggle_checks(code, remaining, Qubit(*v));

@@ -11,7 +11,7 @@ use refusals::Refusal;
 impl<'a> Job<'a> {
     // Flips the generator's best set; answers by how much the weight falls, and how many qubits the set has.
     pub fn flip<C: Code>(&mut self, code: &C, g: Generator) -> Result<(u32, u32), Refusal>
-        ensures { (result, model self.new) ≡ flip_of (layout code.now) (model self.old) g.0 }
+        ensures { (result, model self.new) ≡ flip_of (C.layout code.now) (model self.old) g.0 }
     {
         self.ask_patterns(code)?;
         let Some(_size) = code.generator_size(g) else {

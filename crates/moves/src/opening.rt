@@ -12,7 +12,7 @@ use refusals::Refusal;
 impl<'a> Job<'a> {
     // Whether all five patterns have their lengths, and then whether the unused bits of the two that are read are zero.
     fn ask_opening<C: Code>(&self, code: &C, syndrome: &[u8], erasure: &[u8]) -> Result<(), Refusal>
-        ensures { result ≡ answer (first_no (opening_questions (layout code.now) (model self.now) syndrome.now erasure.now)) }
+        ensures { result ≡ answer (first_no (opening_questions (C.layout code.now) (model self.now) syndrome.now erasure.now)) }
     {
         let qubits = code.qubits();
         let checks = code.checks();
@@ -38,7 +38,7 @@ impl<'a> Job<'a> {
         syndrome: &[u8],
         erasure: &[u8],
     ) -> Result<(), Refusal>
-        ensures { (result, model self.new) ≡ open_of (layout code.now) (model self.old) syndrome.now erasure.now }
+        ensures { (result, model self.new) ≡ open_of (C.layout code.now) (model self.old) syndrome.now erasure.now }
     {
         self.ask_opening(code, syndrome, erasure)?;
         self.remaining.copy_from_slice(syndrome);

@@ -12,7 +12,7 @@ use refusals::Refusal;
 impl<'a> Job<'a> {
     // Peels the check; answers its open qubit, with 1 or 0 for whether the qubit changed.
     pub fn peel<C: Code>(&mut self, code: &C, u: Check) -> Result<(Qubit, u8), Refusal>
-        ensures { (by_number result, model self.new) ≡ peel_of (layout code.now) (model self.old) u.0 }
+        ensures { (by_number result, model self.new) ≡ peel_of (C.layout code.now) (model self.old) u.0 }
     {
         self.ask_patterns(code)?;
         let Some(_size) = code.check_size(u) else {

@@ -12,7 +12,7 @@ use scans::generators::holds;
 impl<'a> Job<'a> {
     // Prunes the generator at the qubit. The correction keeps what an earlier flip did to the qubit.
     pub fn prune<C: Code>(&mut self, code: &C, g: Generator, v: Qubit) -> Result<(), Refusal>
-        ensures { (result, model self.new) ≡ prune_of (layout code.now) (model self.old) g.0 v.0 }
+        ensures { (result, model self.new) ≡ prune_of (C.layout code.now) (model self.old) g.0 v.0 }
     {
         self.ask_patterns(code)?;
         let Some(_size) = code.generator_size(g) else {

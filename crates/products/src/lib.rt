@@ -1,5 +1,6 @@
 // Product codes.
 #![tactic(auto)]
+
 mod pairs;
 pub mod product;
 mod sides;

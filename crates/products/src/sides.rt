@@ -63,11 +63,11 @@ impl<'a, G: Graph> Side for Variables<'a, G> {
 
 // The k-th of the pairs (v, b) for each v joined to a, where x is the pair (a, b) under `width`.
 pub(crate) fn first_moves<S: Side>(side: &S, width: u32, x: u32, k: u32) -> Option<u32>
-    requires bounded { Bounded (nodes side.now) (joined side.now) }
+    requires bounded { Bounded (S.nodes side.now) (S.joined side.now) }
     requires width_nonzero { 0 < width }
     requires width_le_most_nodes { width ≤ most_nodes }
-    requires width_bound { x / width < nodes side.now }
-    ensures value { result ≡ slice_get (by_first width (joined side.now) x) k }
+    requires width_bound { x / width < S.nodes side.now }
+    ensures value { result ≡ slice_get (by_first width (S.joined side.now) x) k }
     ensures bound { IfSome result (λ y. y < 9216) }
 {
     let v = side.neighbour(x / width, k)?;
@@ -76,12 +76,12 @@ pub(crate) fn first_moves<S: Side>(side: &S, width: u32, x: u32, k: u32) -> Opti
 
 // The k-th of the pairs (a, v) under `to` for each v joined to b, where x is the pair (a, b) under `from`.
 pub(crate) fn second_moves<S: Side>(side: &S, from: u32, to: u32, x: u32, k: u32) -> Option<u32>
-    requires bounded { Bounded (nodes side.now) (joined side.now) }
+    requires bounded { Bounded (S.nodes side.now) (S.joined side.now) }
     requires from_nonzero { 0 < from }
     requires to_le_most_nodes { to ≤ most_nodes }
-    requires from_bound { x / from < most_nodes }
-    requires from_bound_2 { x % from < nodes side.now }
-    ensures value { result ≡ slice_get (by_second from to (joined side.now) x) k }
+    requires first_bound { x / from < most_nodes }
+    requires second_bound { x % from < S.nodes side.now }
+    ensures value { result ≡ slice_get (by_second from to (S.joined side.now) x) k }
     ensures bound { IfSome result (λ y. y < 9216) }
 {
     let v = side.neighbour(x % from, k)?;

@@ -19,7 +19,7 @@ const AROUND_PATTERNS: usize = 11;
 
 // Asks both patterns for their length and for their unused bits.
 fn ask<C: Code>(code: &C, report: Report<'_>) -> Result<(), Refusal>
-    ensures { result ≡ answer (first_no (report_questions (told symbol (layout code.now) report.entry))) }
+    ensures { result ≡ answer (first_no (report_questions (told C.symbol (C.layout code.now) report.entry))) }
 {
     let qubits = code.qubits();
     if !fits(report.correction, qubits) || !fits(report.opened, qubits) {
@@ -34,7 +34,7 @@ fn ask<C: Code>(code: &C, report: Report<'_>) -> Result<(), Refusal>
 // The lines `code`, `verdict` and `moves`, from the front of `out` on; answers where they end.
 fn put_short_lines<C: Code>(code: &C, report: Report<'_>, out: &mut [u8]) -> usize
     requires { length out.old ≡ 128 }
-    ensures after { Put out.old out.new 0 result (short_lines (told symbol (layout code.now) report.entry)) }
+    ensures after { Put out.old out.new 0 result (short_lines (told C.symbol (C.layout code.now) report.entry)) }
     ensures bound { result ≤ 128 }
 {
     let at = put(&[b'c', b'o', b'd', b'e', b' ', code.kind_letter()], out, 0);
@@ -49,8 +49,8 @@ fn put_short_lines<C: Code>(code: &C, report: Report<'_>, out: &mut [u8]) -> usi
 fn write_lines<C: Code>(code: &C, report: Report<'_>, out: &mut [u8]) -> Result<usize, Refusal>
     requires correction_len_bound { length report.correction.now < 2 ^ 32 }
     requires opened_len_bound { length report.opened.now < 2 ^ 32 }
-    ensures value { result ≡ answered (report_of (told symbol (layout code.now) report.entry)) out.old }
-    ensures after { out.new ≡ written (report_of (told symbol (layout code.now) report.entry)) out.old }
+    ensures value { result ≡ answered (report_of (told C.symbol (C.layout code.now) report.entry)) out.old }
+    ensures after { out.new ≡ written (report_of (told C.symbol (C.layout code.now) report.entry)) out.old }
 {
     let mut short = [0; MOST_SHORT];
     let size = put_short_lines(code, report, &mut short);
@@ -65,8 +65,8 @@ fn write_lines<C: Code>(code: &C, report: Report<'_>, out: &mut [u8]) -> Result<
 
 // Writes the five lines at the front of `out`; answers how many bytes it wrote. Two reports of the same bytes tell the same.
 pub fn write_report<C: Code>(code: &C, report: Report<'_>, out: &mut [u8]) -> Result<usize, Refusal>
-    ensures value { result ≡ report_answer (told symbol (layout code.now) report.entry) out.old }
-    ensures after { out.new ≡ report_output (told symbol (layout code.now) report.entry) out.old }
+    ensures value { result ≡ report_answer (told C.symbol (C.layout code.now) report.entry) out.old }
+    ensures after { out.new ≡ report_output (told C.symbol (C.layout code.now) report.entry) out.old }
     ensures reads_back { ReportDetermines }
 {
     ask(code, report)?;

@@ -10,7 +10,7 @@ use patterns::items::contains;
 
 // The one qubit of check u that is in the set, if there is just one.
 pub fn only_one<C: Code>(code: &C, set: &[u8], u: Check) -> Option<Qubit>
-    ensures { option_map (λ v. v.0) result ≡ only_one (layout code.now) (member set.now) u.0 }
+    ensures { option_map (λ v. v.0) result ≡ only_one (C.layout code.now) (member set.now) u.0 }
 {
     if u.0 >= code.checks() {
         return None;
@@ -20,14 +20,14 @@ pub fn only_one<C: Code>(code: &C, set: &[u8], u: Check) -> Option<Qubit>
 
 // Whether some qubit of check u is in the set.
 pub fn meets<C: Code>(code: &C, set: &[u8], u: Check) -> bool
-    ensures { result ≡ meets (layout code.now) (member set.now) u.0 }
+    ensures { result ≡ meets (C.layout code.now) (member set.now) u.0 }
 {
     u.0 < code.checks() && !misses(code, set, u)
 }
 
 fn sole<C: Code>(code: &C, set: &[u8], u: Check) -> Option<Qubit>
-    requires { u.0 < (layout code.now).checks }
-    ensures { option_map (λ v. v.0) result ≡ single (meeting (layout code.now) (member set.now) u.0) }
+    requires { u.0 < (C.layout code.now).checks }
+    ensures { option_map (λ v. v.0) result ≡ single (meeting (C.layout code.now) (member set.now) u.0) }
 {
     let mut found = None;
     for k in 0..MOST_WEIGHT {
@@ -45,8 +45,8 @@ fn sole<C: Code>(code: &C, set: &[u8], u: Check) -> Option<Qubit>
 }
 
 fn misses<C: Code>(code: &C, set: &[u8], u: Check) -> bool
-    requires { u.0 < (layout code.now).checks }
-    ensures { result ≡ none_in (member set.now) ((layout code.now).of_check u.0) }
+    requires { u.0 < (C.layout code.now).checks }
+    ensures { result ≡ none_in (member set.now) ((C.layout code.now).of_check u.0) }
 {
     for k in 0..MOST_WEIGHT {
         let Some(v) = code.check_qubit(u, k) else {

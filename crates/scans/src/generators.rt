@@ -10,21 +10,21 @@ use patterns::items::contains;
 
 // Whether the generator holds the qubit.
 pub fn holds<C: Code>(code: &C, g: Generator, v: Qubit) -> bool
-    ensures { result ≡ held_by (layout code.now) g.0 v.0 }
+    ensures { result ≡ held_by (C.layout code.now) g.0 v.0 }
 {
     g.0 < code.generators() && has_qubit(code, g, v)
 }
 
 // Whether all qubits of the generator are in the set.
 pub fn all_held<C: Code>(code: &C, set: &[u8], g: Generator) -> bool
-    ensures { result ≡ all_held (layout code.now) (member set.now) g.0 }
+    ensures { result ≡ all_held (C.layout code.now) (member set.now) g.0 }
 {
     g.0 < code.generators() && within(code, set, g)
 }
 
 fn has_qubit<C: Code>(code: &C, g: Generator, v: Qubit) -> bool
-    requires { g.0 < (layout code.now).generators }
-    ensures { result ≡ has ((layout code.now).of_generator g.0) v.0 }
+    requires { g.0 < (C.layout code.now).generators }
+    ensures { result ≡ has ((C.layout code.now).of_generator g.0) v.0 }
 {
     for k in 0..MOST_WEIGHT {
         let Some(w) = code.generator_qubit(g, k) else {
@@ -38,8 +38,8 @@ fn has_qubit<C: Code>(code: &C, g: Generator, v: Qubit) -> bool
 }
 
 fn within<C: Code>(code: &C, set: &[u8], g: Generator) -> bool
-    requires { g.0 < (layout code.now).generators }
-    ensures { result ≡ all_in (member set.now) ((layout code.now).of_generator g.0) }
+    requires { g.0 < (C.layout code.now).generators }
+    ensures { result ≡ all_in (member set.now) ((C.layout code.now).of_generator g.0) }
 {
     for k in 0..MOST_WEIGHT {
         let Some(v) = code.generator_qubit(g, k) else {

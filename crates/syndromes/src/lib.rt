@@ -1,5 +1,6 @@
 // Syndromes over any code.
 #![tactic(auto)]
+
 ghost use Rattle.std.specs.Prelude.{◌≡◌, ◌<◌};
 ghost use Rattle.refusals.specs.Questions.{first_no, answer, where_accepted};
 ghost use Rattle.patterns.specs.Patterns.{member};
@@ -13,8 +14,8 @@ use refusals::Refusal;
 
 // Whether the check holds an odd number of the set's qubits.
 fn is_odd<C: Code>(code: &C, u: Check, set: &[u8]) -> bool
-    requires { u.0 < (layout code.now).checks }
-    ensures { result ≡ syndrome_of (layout code.now) (member set.now) u.0 }
+    requires { u.0 < (C.layout code.now).checks }
+    ensures { result ≡ syndrome_of (C.layout code.now) (member set.now) u.0 }
 {
     let mut odd = false;
     for k in 0..MOST_WEIGHT {
@@ -30,8 +31,8 @@ fn is_odd<C: Code>(code: &C, u: Check, set: &[u8]) -> bool
 
 // Fills `out` with the syndrome of the set.
 pub fn syndrome<C: Code>(code: &C, set: &[u8], out: &mut [u8]) -> Result<(), Refusal>
-    ensures value { result ≡ answer (first_no (syndrome_questions (layout code.now) set.now out.old)) }
-    ensures after { out.new ≡ where_accepted (first_no (syndrome_questions (layout code.now) set.now out.old)) (syndrome_pattern (layout code.now) set.now) out.old }
+    ensures value { result ≡ answer (first_no (syndrome_questions (C.layout code.now) set.now out.old)) }
+    ensures after { out.new ≡ where_accepted (first_no (syndrome_questions (C.layout code.now) set.now out.old)) (syndrome_pattern (C.layout code.now) set.now) out.old }
 {
     if !fits(set, code.qubits()) || !fits(out, code.checks()) {
         return Err(Refusal::WrongPatternLength);
@@ -50,7 +51,7 @@ pub fn syndrome<C: Code>(code: &C, set: &[u8], out: &mut [u8]) -> Result<(), Ref
 
 // Whether two corrections have the same syndrome.
 pub fn alike<C: Code>(code: &C, one: &[u8], two: &[u8]) -> Result<bool, Refusal>
-    ensures { result ≡ alike_answer (layout code.now) one.now two.now (first_no (alike_questions (layout code.now) one.now two.now)) }
+    ensures { result ≡ alike_answer (C.layout code.now) one.now two.now (first_no (alike_questions (C.layout code.now) one.now two.now)) }
 {
     if !fits(one, code.qubits()) || !fits(two, code.qubits()) {
         return Err(Refusal::WrongPatternLength);

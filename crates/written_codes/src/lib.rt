@@ -1,4 +1,5 @@
 // Codes that are written out row by row.
 #![tactic(auto)]
+
 pub mod making;
 pub mod written;

@@ -117,8 +117,8 @@ fn build(
     m: u32,
     k: u32,
 ) -> Result<Written, Refusal>
-    requires columns_value { generators.columns ≡ checks.columns }
-    requires bytes_value { first_no (written_questions checks.columns m k checks.bytes.now generators.bytes.now) ≡ None }
+    requires same_columns { generators.columns ≡ checks.columns }
+    requires accepted { first_no (written_questions checks.columns m k checks.bytes.now generators.bytes.now) ≡ None }
     ensures { MatchResult result (λ w. code_of w ≡ written_code checks.entry.columns m k checks.entry.bytes.now generators.entry.bytes.now) (λ e. e ≡ OutOfMemory) }
 {
     let by_check = Relation::of(heap, checks, m)?;

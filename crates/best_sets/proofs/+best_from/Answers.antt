@@ -4,23 +4,23 @@ use Rattle.best_sets.proofs.Steps.{room, room_less, small, walked_none, walked_s
 use Rattle.best_sets.proofs.+best_from.Goals as goal
 
 pub overflow_mul-picks : goal.overflow_mul-picks
-overflow_mul-picks t c = omega (arith, small c.args.picks (length c.args.rows.now) c.requires.1)
+overflow_mul-picks t c = omega (arith, small c.args.picks (length c.args.rows.now) c.requires.few_sets)
 
 pub overflow_add-picks : goal.overflow_add-picks
-overflow_add-picks t c = omega (arith, small c.args.picks (length c.args.rows.now) c.requires.1)
+overflow_add-picks t c = omega (arith, small c.args.picks (length c.args.rows.now) c.requires.few_sets)
 
 pub best_from-best-requires : goal.best_from-best-requires
 best_from-best-requires t c =
     let some : 1 ≤ length c.args.rows.now = omega (arith, ltb-false) in
-    (search rules, (simp (take_rest, length-drop) (omega arith), simp (take_rest, length-drop) (room c.args.picks (length c.args.rows.now) some c.requires.1)))
+    (search rules, (simp (take_rest, length-drop) (omega arith), simp (take_rest, length-drop) (room c.args.picks (length c.args.rows.now) some c.requires.few_sets)))
 
 pub overflow_mul-picks-in-len1-up : goal.overflow_mul-picks-in-len1-up
-overflow_mul-picks-in-len1-up t c = omega (arith, small c.args.picks (length c.args.rows.now) c.requires.1)
+overflow_mul-picks-in-len1-up t c = omega (arith, small c.args.picks (length c.args.rows.now) c.requires.few_sets)
 
 pub best_from-requires : goal.best_from-requires
 best_from-requires t c =
     let some : 1 ≤ length c.args.rows.now = omega (arith, ltb-false) in
-    (search rules, (simp (take_rest, length-drop) (omega arith), simp (take_rest, length-drop) (room_less c.args.picks (length c.args.rows.now) some c.requires.1)))
+    (search rules, (simp (take_rest, length-drop) (omega arith), simp (take_rest, length-drop) (room_less c.args.picks (length c.args.rows.now) some c.requires.few_sets)))
 
 pub returns-in-empty : goal.returns-in-empty
 returns-in-empty t c = walked_none c.args.rows.now c.args.left c.args.size c.args.picks c.weigh.result c.args.best c.better.result (omega (arith, ltb-true)) c.weigh.ensures c.better.ensures

@@ -4,10 +4,10 @@ use Rattle.best_sets.proofs.Steps.{room_at_start, walk_within, walk_beyond}
 use Rattle.best_sets.proofs.best_choice.Goals as goal
 
 pub best_from-requires : goal.best_from-requires
-best_from-requires c = (omega arith, room_at_start (length c.args.rows.now) (omega arith))
+best_from-requires c = record { few_rows = omega arith; few_sets = room_at_start (length c.args.rows.now) (omega arith) }
 
-pub returns-then-rows-gt-MOST-ROWS : goal.returns-then-rows-gt-MOST-ROWS
-returns-then-rows-gt-MOST-ROWS c = record {
+pub returns-then-rows-gt-MOST_ROWS : goal.returns-then-rows-gt-MOST_ROWS
+returns-then-rows-gt-MOST_ROWS c = record {
   value = walk_beyond c.args.rows.now c.args.start (omega arith);
   best = best_is_unbeaten;
 }

@@ -14,7 +14,7 @@ use Rattle.flips.proofs.best.best_of.Given.{Over}
 known_here : (g : Over) (c : After-local_checks-count g) → Known (g.C.Code.layout c.args.code.now) c.args.qubits.now (take (c.local_checks-count.result - 0) c.local_checks-count.new.checks)
 known_here g c =
     let whole : c.local_checks-count.result - 0 ≡ c.local_checks-count.result = omega arith in
-    known (g.C.Code.layout c.args.code.now) (g.met.C.Code.sound c.args.code.now) c.args.qubits.now (take (c.local_checks-count.result - 0) c.local_checks-count.new.checks) c.requires.4
+    known (g.C.Code.layout c.args.code.now) (g.met.C.Code.sound c.args.code.now) c.args.qubits.now (take (c.local_checks-count.result - 0) c.local_checks-count.new.checks) c.requires.in_range
     (ap (λ n. take n c.local_checks-count.new.checks) whole ∙ c.local_checks-count.ensures.is)
 
 long_here : (g : Over) (c : After-local_checks-count g) → length (take (c.local_checks-count.result - 0) c.local_checks-count.new.checks) ≡ c.local_checks-count.result - 0
@@ -32,7 +32,7 @@ packed-start-requires g c = omega (arith, length-take (c.local_checks-count.resu
 pub rows_of-rows-requires : goal.rows_of-rows-requires
 rows_of-rows-requires g c =
     let s = (goal.at.rows_of-rows-requires g c).After-local_checks-count in
-    (c.requires.2, c.requires.4, few_here g s, (known_here g s).apart)
+    (c.requires.qubits_len_bound, c.requires.in_range, few_here g s, (known_here g s).apart)
 
 few_rows : (g : Over) (c : After-rows_of-rows g) → length (take (length c.args.qubits.now - 0) c.rows_of-rows.result) ≤ 12
 few_rows g c = omega (arith, length-take (length c.args.qubits.now - 0) c.rows_of-rows.result, c.rows_of-rows.ensures.long)
@@ -47,8 +47,8 @@ local_here g c =
     let whole : length c.args.qubits.now ≡ length c.args.qubits.now - 0 = omega arith in
     let written = ap (λ n. take n c.read_parities.new.parities) (sym (long_here g s)) ∙ c.read_parities.ensures in
     record {
-      rises = c.requires.3;
-      within = c.requires.4;
+      rises = c.requires.rising;
+      within = c.requires.in_range;
       apart = k.apart;
       checks = k.checks;
       few = few_here g s;
@@ -64,7 +64,7 @@ found g c =
     let rows = take (length c.args.qubits.now - 0) c.rows_of-rows.result in
     let start = c.packed-start.result in
     choice_right (g.C.Code.layout c.args.code.now) (g.met.C.Code.sound c.args.code.now) c.args.remaining.now c.args.qubits.now (take (c.local_checks-count.result - 0) c.local_checks-count.new.checks) start rows
-    (record { long = c.requires.0; clean = c.requires.1 })
+    (record { long = c.requires.fits; clean = c.requires.unused_zero })
     (local_here g s)
     c.in_ok-best.best
     (walked_is rows start (few_rows g s) c.in_ok-best.best c.in_ok-best.ensures.value)

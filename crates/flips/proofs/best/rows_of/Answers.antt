@@ -6,7 +6,7 @@ use Rattle.flips.proofs.Chosen.{rows_push}
 use Rattle.flips.proofs.best.rows_of.Goals as goal
 
 pub row-requires : goal.row-requires
-row-requires g c = (All-get_or (λ v. v < (g.C.Code.layout c.args.code.now).qubits) c.args.qubits.now c.loop-i.i 0 c.loop-i-test.true c.requires.1, c.requires.2, c.requires.3)
+row-requires g c = (All-get_or (λ v. v < (g.C.Code.layout c.args.code.now).qubits) c.args.qubits.now c.loop-i.i 0 c.loop-i-test.true c.requires.in_range, c.requires.checks_len_bound, c.requires.apart)
 
 pub loop-i-preserved : goal.loop-i-preserved
 loop-i-preserved g c =
@@ -18,7 +18,7 @@ loop-i-preserved g c =
     let pushed = rows_push l ds (take i xs) (take i rows) (get_or xs i 0) c.row.result c.loop-i.invariant.1 c.row.ensures in (
       length-set rows i c.row.result ∙ c.loop-i.invariant.0,
       subst (λ a. Rows l ds a (take (i + 1) (set rows i c.row.result))) (sym (take_more xs i 0 c.loop-i-test.true))
-          (subst (Rows l ds _) (sym (take_more_set rows i c.row.result (omega (arith, c.loop-i.invariant.0, c.requires.0, c.loop-i-test.true)))) pushed),
+          (subst (Rows l ds _) (sym (take_more_set rows i c.row.result (omega (arith, c.loop-i.invariant.0, c.requires.qubits_len_bound, c.loop-i-test.true)))) pushed),
     )
 
 pub returns : goal.returns

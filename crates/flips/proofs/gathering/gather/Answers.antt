@@ -9,10 +9,10 @@ use Rattle.flips.proofs.gathering.gather.Goals.{In-Some, then-not-is_listed, els
 use Rattle.flips.proofs.gathering.gather.Given.{Over}
 
 seen : (g : Over) (c : In-Some g) → Found ((g.C.Code.layout c.args.code.now).checks_of c.args.v.0) c.loop-k.k c.in-Some.u.0
-seen g c = found_at (g.C.Code.layout c.args.code.now).qubits (g.C.Code.layout c.args.code.now).checks_of c.args.v.0 c.loop-k.k c.requires.0 c.in-Some.u.0 c.in-Some.ensures
+seen g c = found_at (g.C.Code.layout c.args.code.now).qubits (g.C.Code.layout c.args.code.now).checks_of c.args.v.0 c.loop-k.k c.requires.v_bound c.in-Some.u.0 c.in-Some.ensures
 
 room : (g : Over) (c : In-Some g) → c.loop-k.n < 144
-room g c = omega (arith, c.loop-k-test.true, c.loop-k.invariant.1, c.requires.2)
+room g c = omega (arith, c.loop-k-test.true, c.loop-k.invariant.1, c.requires.count_bound)
 
 pub slice_bounds-is_listed-end : goal.slice_bounds-is_listed-end
 slice_bounds-is_listed-end g c = omega (arith, room g (goal.at.slice_bounds-is_listed-end g c).In-Some, c.loop-k.invariant.0)
@@ -57,15 +57,15 @@ loop-k-preserved g c =
     ]
 
 pub shape-of_checks-after-loop-k : goal.shape-of_checks-after-loop-k
-shape-of_checks-after-loop-k g c = c.loop-k.invariant.0 ∙ sym c.requires.1
+shape-of_checks-after-loop-k g c = c.loop-k.invariant.0 ∙ sym c.requires.checks_len
 
 pub shape-of_checks-in_default : goal.shape-of_checks-in_default
-shape-of_checks-in_default g c = c.loop-k.invariant.0 ∙ sym c.requires.1
+shape-of_checks-in_default g c = c.loop-k.invariant.0 ∙ sym c.requires.checks_len
 
 pub returns-after-loop-k : goal.returns-after-loop-k
 returns-after-loop-k g c =
     let row = (g.C.Code.layout c.args.code.now).checks_of c.args.v.0 in
-    let end = (g.met.C.Code.sound c.args.code.now).by_check.column_few c.args.v.0 c.requires.0 in
+    let end = (g.met.C.Code.sound c.args.code.now).by_check.column_few c.args.v.0 c.requires.v_bound in
     record {
       is = sym (at_drop_all (gathered (take c.loop-k.n c.loop-k.checks)) row c.loop-k.k (omega (arith, end))) ∙ c.loop-k.invariant.2;
       few = omega (arith, c.loop-k.invariant.1);
@@ -74,7 +74,7 @@ returns-after-loop-k g c =
 pub returns-in_default : goal.returns-in_default
 returns-in_default g c =
     let l = g.C.Code.layout c.args.code.now in
-    let end = ended_at l.qubits l.checks_of c.args.v.0 c.loop-k.k c.requires.0 c.in_default.ensures in
+    let end = ended_at l.qubits l.checks_of c.args.v.0 c.loop-k.k c.requires.v_bound c.in_default.ensures in
     record {
       is = sym (at_drop_all (gathered (take c.loop-k.n c.loop-k.checks)) (l.checks_of c.args.v.0) c.loop-k.k end) ∙ c.loop-k.invariant.2;
       few = omega (arith, c.loop-k.invariant.1);

@@ -6,9 +6,9 @@ use Rattle.flips.proofs.gathering.local_checks.Goals as goal
 
 pub gather-count-requires : goal.gather-count-requires
 gather-count-requires g c = (
-  All-get_or (λ v. v < (g.C.Code.layout c.args.code.now).qubits) c.args.qubits.now c.loop-v.v-index 0 (omega arith) c.requires.1,
+  All-get_or (λ v. v < (g.C.Code.layout c.args.code.now).qubits) c.args.qubits.now c.loop-v.v-index 0 (omega arith) c.requires.in_range,
   c.loop-v.invariant.0,
-  omega (arith, c.loop-v.invariant.1, c.requires.0),
+  omega (arith, c.loop-v.invariant.1, c.requires.qubits_len_bound),
 )
 
 pub loop-v-preserved : goal.loop-v-preserved
@@ -28,5 +28,5 @@ returns g c =
     let l = g.C.Code.layout c.args.code.now in
     record {
       is = sym (at_drop_all (local_checks l (take c.loop-v.count c.loop-v.checks)) c.args.qubits.now c.loop-v.v-index (omega arith)) ∙ c.loop-v.invariant.2;
-      few = omega (arith, c.loop-v.invariant.1, c.requires.0);
+      few = omega (arith, c.loop-v.invariant.1, c.requires.qubits_len_bound);
     }

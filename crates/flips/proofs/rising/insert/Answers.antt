@@ -13,8 +13,8 @@ loop-i-preserved c =
     let old = c.args.qubits.now in
     let E = take n old in
     let all = carried c.args.v E in
-    let inE : i < length E = omega (arith, length-take n old, c.requires.0, c.requires.1, c.loop-i-test.true) in
-    let inq : i < length q = omega (arith, c.loop-i.invariant.0, c.requires.1, c.loop-i-test.true) in
+    let inE : i < length E = omega (arith, length-take n old, c.requires.qubits_len, c.requires.count_bound, c.loop-i-test.true) in
+    let inq : i < length q = omega (arith, c.loop-i.invariant.0, c.requires.count_bound, c.loop-i-test.true) in
     let same : get_or q i 0 ≡ get_or E i 0 = c.loop-i.invariant.1 i (omega arith) ∙ sym (get_or-take n old i 0 c.loop-i-test.true) in
     elim c.if-held-x.branch [
       | then-held-x w ↦ (
@@ -36,5 +36,5 @@ returns c =
     let all = carried c.args.v E in
     let e : c.loop-i.i ≡ n = omega (arith, c.loop-i-test.false, c.loop-i.auto.i-end) in
     insert_end c.loop-i.qubits E all n c.loop-i.held
-    (omega (arith, length-take n c.args.qubits.now)) (omega (arith, c.loop-i.invariant.0, c.requires.1))
+    (omega (arith, length-take n c.args.qubits.now)) (omega (arith, c.loop-i.invariant.0, c.requires.count_bound))
     (subst (λ k. take k c.loop-i.qubits ++ carried c.loop-i.held (drop k E) ≡ all) e c.loop-i.invariant.2)

@@ -11,7 +11,7 @@ use Rattle.flips.proofs.rising.open_qubits.Goals.{In-Some, then-contains, else-c
 use Rattle.flips.proofs.rising.open_qubits.Given.{Over}
 
 seen : (g : Over) (c : In-Some g) → Found ((g.C.Code.layout c.args.code.now).of_generator c.args.g.0) c.loop-k.k c.in-Some.v.0
-seen g c = found_at (g.C.Code.layout c.args.code.now).generators (g.C.Code.layout c.args.code.now).of_generator c.args.g.0 c.loop-k.k c.requires.0 c.in-Some.v.0 c.in-Some.ensures
+seen g c = found_at (g.C.Code.layout c.args.code.now).generators (g.C.Code.layout c.args.code.now).of_generator c.args.g.0 c.loop-k.k c.requires.g_bound c.in-Some.v.0 c.in-Some.ensures
 
 pub insert-requires : goal.insert-requires
 insert-requires g c = (c.loop-k.invariant.0, omega (arith, c.loop-k-test.true, c.loop-k.invariant.1))
@@ -29,7 +29,7 @@ loop-k-preserved g c =
     let v = c.in-Some.v.0 in
     let T = take n c.loop-k.qubits in
     let s = seen g (goal.at.loop-k-preserved g c).In-Some in
-    let apart = (g.met.C.Code.sound c.args.code.now).by_generator.row_apart c.args.g.0 c.requires.0 in
+    let apart = (g.met.C.Code.sound c.args.code.now).by_generator.row_apart c.args.g.0 c.requires.g_bound in
     elim c.if-contains.branch [
       | then-contains w ↦
           let T' : take c.if-contains.n c.if-contains.qubits ≡ carried v T = ap₂ take w.n-is w.qubits-is ∙ w.insert.ensures in (
@@ -51,9 +51,9 @@ pub returns-after-loop-k : goal.returns-after-loop-k
 returns-after-loop-k g c =
     let l = g.C.Code.layout c.args.code.now in
     let sound = g.met.C.Code.sound c.args.code.now in
-    let end = sound.by_generator.row_few c.args.g.0 c.requires.0 in
+    let end = sound.by_generator.row_few c.args.g.0 c.requires.g_bound in
     record {
-      is = open_all l sound (member c.args.opened.now) c.args.g.0 c.loop-k.k (take c.loop-k.n c.loop-k.qubits) c.requires.0 (omega (arith, end)) c.loop-k.invariant.2 c.loop-k.invariant.3;
+      is = open_all l sound (member c.args.opened.now) c.args.g.0 c.loop-k.k (take c.loop-k.n c.loop-k.qubits) c.requires.g_bound (omega (arith, end)) c.loop-k.invariant.2 c.loop-k.invariant.3;
       few = omega (arith, c.loop-k.invariant.1);
     }
 
@@ -61,8 +61,8 @@ pub returns-in_default : goal.returns-in_default
 returns-in_default g c =
     let l = g.C.Code.layout c.args.code.now in
     let sound = g.met.C.Code.sound c.args.code.now in
-    let end = ended_at l.generators l.of_generator c.args.g.0 c.loop-k.k c.requires.0 c.in_default.ensures in
+    let end = ended_at l.generators l.of_generator c.args.g.0 c.loop-k.k c.requires.g_bound c.in_default.ensures in
     record {
-      is = open_all l sound (member c.args.opened.now) c.args.g.0 c.loop-k.k (take c.loop-k.n c.loop-k.qubits) c.requires.0 end c.loop-k.invariant.2 c.loop-k.invariant.3;
+      is = open_all l sound (member c.args.opened.now) c.args.g.0 c.loop-k.k (take c.loop-k.n c.loop-k.qubits) c.requires.g_bound end c.loop-k.invariant.2 c.loop-k.invariant.3;
       few = omega (arith, c.loop-k.invariant.1);
     }

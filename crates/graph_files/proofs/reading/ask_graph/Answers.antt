@@ -10,7 +10,7 @@ pub returns-in_err-head : goal.returns-in_err-head
 unfolding graph_refusal
 returns-in_err-head c =
     let f = c.args.file.now in
-    let p = err_from_is_err_and c.from-residual.result c.from-residual.ensures.1 in
+    let p = err_from_is_err_and c.from_residual.result c.from_residual.ensures.1 in
     let first = first_no_front (head_questions f) (row_questions (checks_in f) (variables_in f) (rows_in f)) c.in_err-head.field-0.0 c.in_err-head.ensures in
     rw (p.1, p.2) first
 
@@ -20,7 +20,7 @@ returns-in_err-ask_rows c =
     let h = c.in_ok-head.head in
     let told = c.in_ok-head.ensures in
     let rows = h.matrix.bytes.now in
-    let p = err_from_is_err_and c.from-residual-in_err-ask_rows.result c.from-residual-in_err-ask_rows.ensures.1 in
+    let p = err_from_is_err_and c.from_residual-in_err-ask_rows.result c.from_residual-in_err-ask_rows.ensures.1 in
     let first = rows_refusal f rows h.checks h.matrix.columns told.0 told.1 told.2 told.3
     ∙ answer_err (first_no (row_questions h.checks h.matrix.columns rows)) c.in_err-ask_rows.field-0.0 c.in_err-ask_rows.ensures in
     rw (p.1, p.2) first

@@ -8,7 +8,7 @@ use Rattle.graph_files.proofs.reading.read_graph.Goals as goal
 
 pub returns-in_err-head : goal.returns-in_err-head
 returns-in_err-head c =
-    let p = err_from_is_err_and c.from-residual.result c.from-residual.ensures.1 in
+    let p = err_from_is_err_and c.from_residual.result c.from_residual.ensures.1 in
     rw (p.1, p.2) (sym (ap (λ r. unwrap_or r OutOfMemory) c.in_err-head.ensures))
 
 pub build-requires : goal.build-requires

@@ -11,14 +11,14 @@ use Rattle.job_files.proofs.reading.read_job.Goals as goal
 pub returns-in_err-head : goal.returns-in_err-head
 returns-in_err-head c =
     let f = c.args.file.now in
-    let p = err_from_is_err_and c.from-residual.result c.from-residual.ensures.1 in
+    let p = err_from_is_err_and c.from_residual.result c.from_residual.ensures.1 in
     rw (p.1, p.2) (sym (ap (λ x. unwrap_or x (Graph OutOfMemory)) (fault_of_head f c.in_err-head.field-0.0 c.in_err-head.ensures)))
 
 pub returns-in_err-asked : goal.returns-in_err-asked
 returns-in_err-asked c =
     let f = c.args.file.now in
     let told = c.in_ok-head.ensures in
-    let p = err_from_is_err_and c.from-residual-in_err-asked.result c.from-residual-in_err-asked.ensures.1 in
+    let p = err_from_is_err_and c.from_residual-in_err-asked.result c.from_residual-in_err-asked.ensures.1 in
     let e = c.in_err-asked.field-0.0 in
     let first = fault_of_graph f told.0 e (ap graph_refusal (sym told.2.bytes) ∙ c.in_err-asked.ensures) in
     rw (p.1, p.2) (sym (ap (λ x. unwrap_or x (Graph OutOfMemory)) first))
@@ -50,7 +50,7 @@ returns-in_err-patterns c =
     let h = c.in_ok-asked.asked in
     let says = c.in_ok-asked.ensures in
     let is = asked f bytes h.matrix.columns h.checks c.product_checks-checks.result c.product_qubits-qubits.result told.0 told.2.bytes says.0 says.1 says.2 c.product_checks-checks.ensures c.product_qubits-qubits.ensures in
-    let p = err_from_is_err_and c.from-residual-in_err-patterns.result c.from-residual-in_err-patterns.ensures.1 in
+    let p = err_from_is_err_and c.from_residual-in_err-patterns.result c.from_residual-in_err-patterns.ensures.1 in
     rw (p.1, p.2) (sym (ap (λ x. unwrap_or x (Graph OutOfMemory)) (is.fault ∙ c.in_err-patterns.ensures)))
 
 pub returns-in_err-graph : goal.returns-in_err-graph
@@ -61,7 +61,7 @@ returns-in_err-graph c =
     let h = c.in_ok-asked.asked in
     let says = c.in_ok-asked.ensures in
     let is = asked f bytes h.matrix.columns h.checks c.product_checks-checks.result c.product_qubits-qubits.result told.0 told.2.bytes says.0 says.1 says.2 c.product_checks-checks.ensures c.product_qubits-qubits.ensures in
-    let p = err_from_is_err_and c.from-residual-in_err-graph.result c.from-residual-in_err-graph.ensures.1 in
+    let p = err_from_is_err_and c.from_residual-in_err-graph.result c.from_residual-in_err-graph.ensures.1 in
     let memory = c.in_err-graph.ensures ∙ ap (λ x. unwrap_or x OutOfMemory) says.0 in
     let accepted = is.fault ∙ ap of_job c.in_ok-patterns.ensures.0 in
     rw (p.1, p.2) (ap Graph memory ∙ sym (ap (λ x. unwrap_or x (Graph OutOfMemory)) accepted))

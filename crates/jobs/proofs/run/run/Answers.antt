@@ -9,7 +9,7 @@ pub returns-in_err-ask_patterns : goal.returns-in_err-ask_patterns
 returns-in_err-ask_patterns g c =
     let l = g.C.Code.layout c.args.code.now in
     let sound = g.met.C.Code.sound c.args.code.now in
-    let p = err_from_is_err_and c.from-residual.result c.from-residual.ensures.1 in
+    let p = err_from_is_err_and c.from_residual.result c.from_residual.ensures.1 in
     record {
       value = rw (p.1, p.2) (run_refused l (model c.args.job.now) c.in_err-ask_patterns.field-0.0 c.in_err-ask_patterns.ensures);
       ends = run_ends l sound;

@@ -15,7 +15,7 @@ returns-in_err-ask_patterns g c =
     let m = model c.args.job.now in
     let asked = first_no (pattern_questions l m) in
     let e = c.in_err-ask_patterns.field-0.0 in
-    let p = err_from_is_err_and c.from-residual.result c.from-residual.ensures.1 in
+    let p = err_from_is_err_and c.from_residual.result c.from_residual.ensures.1 in
     record {
       value = rw (p.1, p.2) (ap (λ o. o.0) (refused_at asked m (Ok (verdict l m), m) e (answer_err asked e c.in_err-ask_patterns.ensures)));
       stalled = stalled_exactly l (g.met.C.Code.sound c.args.code.now);

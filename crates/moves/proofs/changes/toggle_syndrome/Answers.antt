@@ -10,7 +10,7 @@ use Rattle.moves.proofs.changes.toggle_syndrome.Goals as goal
 pub toggle_checks-requires : goal.toggle_checks-requires
 toggle_checks-requires g c =
     let l = g.C.Code.layout c.args.code.now in
-    (All-get_or (λ v. v < l.qubits) c.args.qubits.now c.loop-v.v-index 0 c.loop-v-test.true c.requires.1, ap (λ n. eqb n (width l.checks)) c.loop-v.invariant.0 ∙ c.requires.0)
+    (All-get_or (λ v. v < l.qubits) c.args.qubits.now c.loop-v.v-index 0 c.loop-v-test.true c.requires.in_range, ap (λ n. eqb n (width l.checks)) c.loop-v.invariant.0 ∙ c.requires.fits)
 
 pub loop-v-preserved : goal.loop-v-preserved
 loop-v-preserved g c =
@@ -33,4 +33,4 @@ returns g c =
     let i = c.loop-v.v-index in
     added_none l.checks c.loop-v.remaining (toggles l (drop i xs)) (λ u. ap (λ s. toggles l s u) (drop_all i xs c.loop-v-test.false))
     ∙ c.loop-v.invariant.1
-    ∙ added_same l.checks c.args.remaining.now (toggles l xs) (λ u. parity (has xs) (l.of_check u)) (λ u h. sym (syndrome_by_qubits l (g.met.C.Code.sound c.args.code.now) xs c.requires.2 c.requires.1 u h))
+    ∙ added_same l.checks c.args.remaining.now (toggles l xs) (λ u. parity (has xs) (l.of_check u)) (λ u h. sym (syndrome_by_qubits l (g.met.C.Code.sound c.args.code.now) xs c.requires.apart c.requires.in_range u h))

@@ -73,7 +73,7 @@ returns-in_err-x g c =
     let parts = told_parts w b.checks x a.variables known wb.some_checks here in
     let size = c.unwrap_or-size.result in
     let sized : size ≡ length (by_second b.checks b.variables b.of_check x) = told_or c.degree.result size (length (by_second b.checks b.variables b.of_check x)) (c.degree.ensures ∙ second_size b.checks b.of_check w b.checks x known b.variables (mod_below x b.checks wb.some_checks)) c.unwrap_or-size.ensures in
-    c.from-residual.ensures
+    c.from_residual.ensures
     ∙ row_ended rows whole (by_second b.checks b.variables b.of_check) (by_first b.checks a.of_variable) x here k size sized (omega arith) (c.in_err-x.ensures.value ∙ ap (λ m. slice_get (by_first m a.of_variable x) (k - size)) known)
 
 pub returns : goal.returns

@@ -73,7 +73,7 @@ returns-in_err-x g c =
     let parts = told_parts w b.variables x a.checks known wb.some_variables here in
     let size = c.unwrap_or-size.result in
     let sized : size ≡ length (by_first b.variables a.of_check x) = told_or c.degree.result size (length (by_first b.variables a.of_check x)) (c.degree.ensures ∙ first_size a.checks a.of_check w b.variables x known (div_below x b.variables a.checks wb.some_variables here)) c.unwrap_or-size.ensures in
-    c.from-residual.ensures
+    c.from_residual.ensures
     ∙ row_ended rows whole (by_first b.variables a.of_check) (by_second b.variables b.checks b.of_variable) x here k size sized (omega arith) (c.in_err-x.ensures.value ∙ ap₂ (λ m n. slice_get (by_second m n b.of_variable x) (k - size)) known c.checks.ensures)
 
 pub returns : goal.returns

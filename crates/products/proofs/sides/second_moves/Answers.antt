@@ -2,33 +2,33 @@ use Rattle.std.proofs.Common.{◌+◌, ◌*◌, ◌/◌, ◌%◌, ◌<◌, IfSom
 use Rattle.matrices.proofs.Lookups.{found_at}
 use Rattle.products.proofs.Moving.{moved, none_moved, pair_below}
 use Rattle.products.proofs.sides.second_moves.Goals as goal
-use Rattle.products.proofs.sides.second_moves.Goals.{In-ok-v}
+use Rattle.products.proofs.sides.second_moves.Goals.{In_ok-v}
 use Rattle.products.proofs.sides.second_moves.Given.{Over}
 
-below : (g : Over) (c : In-ok-v g) → c.args.x / c.args.from * c.args.to + c.in_ok-v.v < 9216
+below : (g : Over) (c : In_ok-v g) → c.args.x / c.args.from * c.args.to + c.in_ok-v.v < 9216
 below g c =
     let s = c.args.side.now in
     let u = c.args.x % c.args.from in
     let v = c.in_ok-v.v in
-    pair_below (c.args.x / c.args.from) v c.args.to c.requires.3 (c.requires.0 u v c.requires.4 (found_at (g.S.Side.nodes s) (g.S.Side.joined s) u c.args.k c.requires.4 v c.in_ok-v.ensures).among) c.requires.2
+    pair_below (c.args.x / c.args.from) v c.args.to c.requires.first_bound (c.requires.bounded u v c.requires.second_bound (found_at (g.S.Side.nodes s) (g.S.Side.joined s) u c.args.k c.requires.second_bound v c.in_ok-v.ensures).among) c.requires.to_le_most_nodes
 
 pub returns-in_err-v : goal.returns-in_err-v
 returns-in_err-v g c =
     let s = c.args.side.now in
     let x = c.args.x in
     record {
-      value = c.from-residual.ensures ∙ none_moved (g.S.Side.nodes s) (g.S.Side.joined s) (λ v. x / c.args.from * c.args.to + v) (x % c.args.from) c.args.k c.requires.4 c.in_err-v.ensures;
-      bound = subst (λ r. IfSome r (λ y. y < 9216)) (sym c.from-residual.ensures) tt;
+      value = c.from_residual.ensures ∙ none_moved (g.S.Side.nodes s) (g.S.Side.joined s) (λ v. x / c.args.from * c.args.to + v) (x % c.args.from) c.args.k c.requires.second_bound c.in_err-v.ensures;
+      bound = subst (λ r. IfSome r (λ y. y < 9216)) (sym c.from_residual.ensures) tt;
     }
 
 pub overflow_add-result : goal.overflow_add-result
-overflow_add-result g c = omega (arith, below g (goal.at.overflow_add-result g c).In-ok-v)
+overflow_add-result g c = omega (arith, below g (goal.at.overflow_add-result g c).In_ok-v)
 
 pub returns : goal.returns
 returns g c =
     let s = c.args.side.now in
     let x = c.args.x in
     record {
-      value = moved (g.S.Side.nodes s) (g.S.Side.joined s) (λ v. x / c.args.from * c.args.to + v) (x % c.args.from) c.args.k c.requires.4 c.in_ok-v.v c.in_ok-v.ensures;
-      bound = below g (goal.at.returns g c).In-ok-v;
+      value = moved (g.S.Side.nodes s) (g.S.Side.joined s) (λ v. x / c.args.from * c.args.to + v) (x % c.args.from) c.args.k c.requires.second_bound c.in_ok-v.v c.in_ok-v.ensures;
+      bound = below g (goal.at.returns g c).In_ok-v;
     }

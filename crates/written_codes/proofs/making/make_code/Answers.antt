@@ -9,14 +9,14 @@ use Rattle.written_codes.proofs.making.make_code.Goals as goal
 pub returns-in_err-ask : goal.returns-in_err-ask
 unfolding written_refusal
 returns-in_err-ask c =
-    let p = err_from_is_err_and c.from-residual.result c.from-residual.ensures.1 in
+    let p = err_from_is_err_and c.from_residual.result c.from_residual.ensures.1 in
     let questions = written_questions c.args.qubits c.args.checks.count c.args.generators.count c.args.checks.bytes.now c.args.generators.bytes.now in
     rw (p.1, p.2) (sym (ap (λ r. unwrap_or r OutOfMemory) (answer_err (first_no questions) c.in_err-ask.field-0.0 c.in_err-ask.ensures)))
 
 pub build-requires : goal.build-requires
 build-requires c =
     let questions = written_questions c.args.qubits c.args.checks.count c.args.generators.count c.args.checks.bytes.now c.args.generators.bytes.now in
-    (refl, answer_ok (first_no questions) c.in_ok-ask.ensures)
+    record { same_columns = refl; accepted = answer_ok (first_no questions) c.in_ok-ask.ensures }
 
 pub returns : goal.returns
 unfolding written_refusal

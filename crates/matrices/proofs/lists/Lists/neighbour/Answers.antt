@@ -6,7 +6,7 @@ use Rattle.matrices.proofs.lists.Lists.neighbour.Goals as goal
 pub returns-in_err-list : goal.returns-in_err-list
 returns-in_err-list c =
     let h = c.in_err-list.ensures in
-    c.from-residual.ensures ∙ neighbour_past (vec_items c.args.self.now.nodes) c.args.u c.args.k (rw c.deref.ensures.value at h.lookup.3)
+    c.from_residual.ensures ∙ neighbour_past (vec_items c.args.self.now.nodes) c.args.u c.args.k (rw c.deref.ensures.value at h.lookup.3)
 
 pub returns : goal.returns
 returns c =

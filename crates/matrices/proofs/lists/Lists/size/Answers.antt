@@ -5,7 +5,7 @@ use Rattle.matrices.proofs.lists.Lists.size.Goals as goal
 pub returns-in_err-list : goal.returns-in_err-list
 returns-in_err-list c =
     let h = c.in_err-list.ensures in
-    c.from-residual.ensures ∙ size_past (vec_items c.args.self.now.nodes) c.args.u (rw c.deref.ensures.value at h.lookup.3)
+    c.from_residual.ensures ∙ size_past (vec_items c.args.self.now.nodes) c.args.u (rw c.deref.ensures.value at h.lookup.3)
 
 pub returns : goal.returns
 returns c =

@@ -12,4 +12,7 @@ invariant_of-result c =
     let columns = lists c.in_ok-columns.columns.nodes in
     let r = c.in_ok-rows.ensures in
     let k = c.in_ok-columns.ensures in
-    (told_tabled m n (entry n bytes) rows columns r k, (told_tabled n m (turned_entry n bytes) columns rows k r, tt))
+    record {
+      by_row = told_tabled m n (entry n bytes) rows columns r k;
+      by_column = told_tabled n m (turned_entry n bytes) columns rows k r;
+    }

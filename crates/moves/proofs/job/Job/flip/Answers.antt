@@ -24,7 +24,7 @@ returns-in_err-ask_patterns g c =
     let m = model c.args.self.now in
     let a = c.args.g.0 in
     let e = c.in_err-ask_patterns.field-0.0 in
-    let p = err_from_is_err_and c.from-residual.result c.from-residual.ensures.1 in
+    let p = err_from_is_err_and c.from_residual.result c.from_residual.ensures.1 in
     let no = answer_err (first_no (pattern_questions l m)) e c.in_err-ask_patterns.ensures in
     let all = first_no_front (pattern_questions l m) ((ltb a l.generators, NumberOutOfRange) ∷ []) e no in
     rw (p.1, p.2) (refused_at (first_no (flip_questions l m a)) m (flip_by l m (flip_set l m.remaining m.opened a)) e all)

@@ -14,7 +14,7 @@ returns-in_err-ask_opening g c =
     let m = model c.args.self.now in
     let s = c.args.syndrome.now in
     let e = c.args.erasure.now in
-    let p = err_from_is_err_and c.from-residual.result c.from-residual.ensures.1 in
+    let p = err_from_is_err_and c.from_residual.result c.from_residual.ensures.1 in
     let no = answer_err (first_no (opening_questions l m s e)) c.in_err-ask_opening.field-0.0 c.in_err-ask_opening.ensures in
     rw (p.1, p.2) (refused_at (first_no (opening_questions l m s e)) m (Ok tt, opening l s e) c.in_err-ask_opening.field-0.0 no)
 

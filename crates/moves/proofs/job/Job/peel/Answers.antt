@@ -22,7 +22,7 @@ returns-in_err-ask_patterns g c =
     let m = model c.args.self.now in
     let u = c.args.u.0 in
     let e = c.in_err-ask_patterns.field-0.0 in
-    let p = err_from_is_err_and c.from-residual.result c.from-residual.ensures.1 in
+    let p = err_from_is_err_and c.from_residual.result c.from_residual.ensures.1 in
     let no = answer_err (first_no (pattern_questions l m)) e c.in_err-ask_patterns.ensures in
     let all = first_no_front (pattern_questions l m) ((ltb u l.checks, NumberOutOfRange) ∷ []) e no in
     rw (p.1, p.2) (refused_at (first_no (peel_questions l m u)) m (peel_by l m u (single (meeting l (member m.opened) u))) e all)

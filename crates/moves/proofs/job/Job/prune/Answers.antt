@@ -19,7 +19,7 @@ returns-in_err-ask_patterns g c =
     let a = c.args.g.0 in
     let v = c.args.v.0 in
     let e = c.in_err-ask_patterns.field-0.0 in
-    let p = err_from_is_err_and c.from-residual.result c.from-residual.ensures.1 in
+    let p = err_from_is_err_and c.from_residual.result c.from_residual.ensures.1 in
     let no = answer_err (first_no (pattern_questions l m)) e c.in_err-ask_patterns.ensures in
     let all = first_no_front (pattern_questions l m) (own_questions l m a v) e no in
     rw (p.1, p.2) (refused_at (first_no (prune_questions l m a v)) m (Ok tt, counted (closed l m v)) e all)
