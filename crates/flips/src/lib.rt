@@ -1,5 +1,6 @@
 // The set that a flip of a generator changes.
 #![tactic(auto)]
+
 mod best;
 pub mod finding;
 pub mod flip;

@@ -32,7 +32,7 @@ packed-start-requires g c = omega (arith, length-take (c.local_checks-count.resu
 pub rows_of-rows-requires : goal.rows_of-rows-requires
 rows_of-rows-requires g c =
     let s = (goal.at.rows_of-rows-requires g c).After-local_checks-count in
-    (c.requires.qubits_len_bound, c.requires.in_range, few_here g s, (known_here g s).apart)
+    record { qubits_len_bound = c.requires.qubits_len_bound; in_range = c.requires.in_range; checks_len_bound = few_here g s; apart = (known_here g s).apart }
 
 few_rows : (g : Over) (c : After-rows_of-rows g) → length (take (length c.args.qubits.now - 0) c.rows_of-rows.result) ≤ 12
 few_rows g c = omega (arith, length-take (length c.args.qubits.now - 0) c.rows_of-rows.result, c.rows_of-rows.ensures.long)

@@ -6,7 +6,7 @@ use Rattle.flips.proofs.Chosen.{rows_push}
 use Rattle.flips.proofs.best.rows_of.Goals as goal
 
 pub row-requires : goal.row-requires
-row-requires g c = (All-get_or (λ v. v < (g.C.Code.layout c.args.code.now).qubits) c.args.qubits.now c.loop-i.i 0 c.loop-i-test.true c.requires.in_range, c.requires.checks_len_bound, c.requires.apart)
+row-requires g c = record { v_bound = All-get_or (λ v. v < (g.C.Code.layout c.args.code.now).qubits) c.args.qubits.now c.loop-i.i 0 c.loop-i-test.true c.requires.in_range; checks_len_bound = c.requires.checks_len_bound; apart = c.requires.apart }
 
 pub loop-i-preserved : goal.loop-i-preserved
 loop-i-preserved g c =

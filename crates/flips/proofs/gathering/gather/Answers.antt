@@ -56,12 +56,6 @@ loop-k-preserved g c =
       )
     ]
 
-pub shape-of_checks-after-loop-k : goal.shape-of_checks-after-loop-k
-shape-of_checks-after-loop-k g c = c.loop-k.invariant.0 ∙ sym c.requires.checks_len
-
-pub shape-of_checks-in_default : goal.shape-of_checks-in_default
-shape-of_checks-in_default g c = c.loop-k.invariant.0 ∙ sym c.requires.checks_len
-
 pub returns-after-loop-k : goal.returns-after-loop-k
 returns-after-loop-k g c =
     let row = (g.C.Code.layout c.args.code.now).checks_of c.args.v.0 in

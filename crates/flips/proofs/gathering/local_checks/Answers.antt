@@ -5,11 +5,7 @@ use Rattle.flips.specs.Local.{local_checks}
 use Rattle.flips.proofs.gathering.local_checks.Goals as goal
 
 pub gather-count-requires : goal.gather-count-requires
-gather-count-requires g c = (
-  All-get_or (λ v. v < (g.C.Code.layout c.args.code.now).qubits) c.args.qubits.now c.loop-v.v-index 0 (omega arith) c.requires.in_range,
-  c.loop-v.invariant.0,
-  omega (arith, c.loop-v.invariant.1, c.requires.qubits_len_bound),
-)
+gather-count-requires g c = record { v_bound = All-get_or (λ v. v < (g.C.Code.layout c.args.code.now).qubits) c.args.qubits.now c.loop-v.v-index 0 (omega arith) c.requires.in_range; checks_len = c.loop-v.invariant.0; count_bound = omega (arith, c.loop-v.invariant.1, c.requires.qubits_len_bound) }
 
 pub loop-v-preserved : goal.loop-v-preserved
 loop-v-preserved g c =

@@ -14,7 +14,7 @@ seen : (g : Over) (c : In-Some g) → Found ((g.C.Code.layout c.args.code.now).o
 seen g c = found_at (g.C.Code.layout c.args.code.now).generators (g.C.Code.layout c.args.code.now).of_generator c.args.g.0 c.loop-k.k c.requires.g_bound c.in-Some.v.0 c.in-Some.ensures
 
 pub insert-requires : goal.insert-requires
-insert-requires g c = (c.loop-k.invariant.0, omega (arith, c.loop-k-test.true, c.loop-k.invariant.1))
+insert-requires g c = record { qubits_len = c.loop-k.invariant.0; count_bound = omega (arith, c.loop-k-test.true, c.loop-k.invariant.1) }
 
 pub overflow_add-n : goal.overflow_add-n
 overflow_add-n g c = omega (arith, c.loop-k-test.true, c.loop-k.invariant.1)

@@ -10,7 +10,7 @@ use Rattle.moves.proofs.changes.toggle_syndrome.Goals as goal
 pub toggle_checks-requires : goal.toggle_checks-requires
 toggle_checks-requires g c =
     let l = g.C.Code.layout c.args.code.now in
-    (All-get_or (λ v. v < l.qubits) c.args.qubits.now c.loop-v.v-index 0 c.loop-v-test.true c.requires.in_range, ap (λ n. eqb n (width l.checks)) c.loop-v.invariant.0 ∙ c.requires.fits)
+    record { v_bound = All-get_or (λ v. v < l.qubits) c.args.qubits.now c.loop-v.v-index 0 c.loop-v-test.true c.requires.in_range; fits = ap (λ n. eqb n (width l.checks)) c.loop-v.invariant.0 ∙ c.requires.fits }
 
 pub loop-v-preserved : goal.loop-v-preserved
 loop-v-preserved g c =

@@ -45,7 +45,7 @@ toggle_syndrome-requires g c =
     let m = model c.args.self.now in
     let yes = answer_ok (first_no (pattern_questions l m)) c.in_ok-ask_patterns.ensures in
     let f = flipped g (goal.at.toggle_syndrome-requires g c).After-qubits-qubits in
-    ((lengths_asked l m yes).remaining, all_by_has (λ v. v < l.qubits) c.qubits-qubits.result.now f.within, f.apart)
+    record { fits = (lengths_asked l m yes).remaining; in_range = all_by_has (λ v. v < l.qubits) c.qubits-qubits.result.now f.within; apart = f.apart }
 
 pub returns : goal.returns
 returns g c =

@@ -34,7 +34,7 @@ toggle_checks-requires g c =
     let u = c.args.u.0 in
     let yes = answer_ok (first_no (pattern_questions l m)) c.in_ok-ask_patterns.ensures in
     let within = size_within l.checks l.of_check u c.in-Some.-size c.in-Some.ensures in
-    (peeled_below l (g.met.C.Code.sound c.args.code.now) m u c.in-Some-only_open.v.0 within (c.in-Some-only_open.ensures ∙ only_one_of l (member m.opened) u within), (lengths_asked l m yes).remaining)
+    record { v_bound = peeled_below l (g.met.C.Code.sound c.args.code.now) m u c.in-Some-only_open.v.0 within (c.in-Some-only_open.ensures ∙ only_one_of l (member m.opened) u within); fits = (lengths_asked l m yes).remaining }
 
 pub returns : goal.returns
 returns g c =
