@@ -1,5 +1,6 @@
 // Jobs, and the moves that are made on them.
 #![tactic(auto)]
+
 mod asking;
 mod changes;
 pub mod flip;

@@ -35,7 +35,7 @@ flipped g c =
     let m = model c.args.self.now in
     let a = c.args.g.0 in
     let yes = answer_ok (first_no (pattern_questions l m)) c.in_ok-ask_patterns.ensures in
-    let below = size_within l.generators l.of_generator a c.in-Some.-size c.in-Some.ensures in
+    let below = size_within l.generators l.of_generator a c.in-Some._size c.in-Some.ensures in
     let F = c.in-Some-best_flip.flip in
     subst (Flipped l m a F.fall) (sym c.qubits-qubits.ensures.value) (flipped_is l m a below yes F.fall (told F).1 c.in-Some-best_flip.ensures)
 
@@ -53,6 +53,6 @@ returns g c =
     let m = model c.args.self.now in
     let a = c.args.g.0 in
     let yes = answer_ok (first_no (pattern_questions l m)) c.in_ok-ask_patterns.ensures in
-    let below = size_within l.generators l.of_generator a c.in-Some.-size c.in-Some.ensures in
+    let below = size_within l.generators l.of_generator a c.in-Some._size c.in-Some.ensures in
     flip_made l m a below yes c.in-Some-best_flip.flip.fall c.qubits-qubits.result.now (flipped g (goal.at.returns g c).After-qubits-qubits)
     c.toggle_syndrome.new.remaining c.toggle_all.new.bits c.one_more-self.result c.toggle_syndrome.ensures c.toggle_all.ensures c.one_more-self.ensures

@@ -33,7 +33,7 @@ toggle_checks-requires g c =
     let m = model c.args.self.now in
     let u = c.args.u.0 in
     let yes = answer_ok (first_no (pattern_questions l m)) c.in_ok-ask_patterns.ensures in
-    let within = size_within l.checks l.of_check u c.in-Some.-size c.in-Some.ensures in
+    let within = size_within l.checks l.of_check u c.in-Some._size c.in-Some.ensures in
     record { v_bound = peeled_below l (g.met.C.Code.sound c.args.code.now) m u c.in-Some-only_open.v.0 within (c.in-Some-only_open.ensures ∙ only_one_of l (member m.opened) u within); fits = (lengths_asked l m yes).remaining }
 
 pub returns : goal.returns
@@ -44,7 +44,7 @@ returns g c =
     let u = c.args.u.0 in
     let v = c.in-Some-only_open.v.0 in
     let yes = answer_ok (first_no (pattern_questions l m)) c.in_ok-ask_patterns.ensures in
-    let within = size_within l.checks l.of_check u c.in-Some.-size c.in-Some.ensures in
+    let within = size_within l.checks l.of_check u c.in-Some._size c.in-Some.ensures in
     let only = c.in-Some-only_open.ensures ∙ only_one_of l (member m.opened) u within in
     let changes = c.remains-changes.result in
     let was : model c.if-changes.self ≡ half_way l m v changes = elim c.if-changes.branch [

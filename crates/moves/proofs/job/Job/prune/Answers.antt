@@ -31,8 +31,8 @@ returns g c =
     let a = c.args.g.0 in
     let v = c.args.v.0 in
     let yes = answer_ok (first_no (pattern_questions l m)) c.in_ok-ask_patterns.ensures in
-    let g_within = size_within l.generators l.of_generator a c.in-Some.-size c.in-Some.ensures in
-    let v-within = size_within l.qubits l.checks_of v c.in-Some-checks_of.-checks c.in-Some-checks_of.ensures in
+    let g_within = size_within l.generators l.of_generator a c.in-Some._size c.in-Some.ensures in
+    let v-within = size_within l.qubits l.checks_of v c.in-Some-checks_of._checks c.in-Some-checks_of.ensures in
     let held = held_has l a v c.if-not-holds.ensures in
     let all-open = held_all l (member m.opened) a c.if-not-all_open.ensures in
     prune_made l m a v g_within v-within yes held all-open c.toggle.new.bits c.toggle.ensures.after c.one_more-self.result c.one_more-self.ensures
