@@ -1,5 +1,6 @@
 // Runs of a job until no move applies, and verdicts.
 #![tactic(auto)]
+
 pub mod answers;
 mod closing;
 mod counting;

@@ -3,10 +3,9 @@ use Rattle.std.specs.Prelude.{ℕ, ◌+◌, min, false, ◌&&◌, List, [], ◌�
 use Rattle.refusals.specs.declared.Refusal.{Refusal}
 use Rattle.refusals.specs.declared.Refusal.TheVariants.{WrongPatternLength, UnusedBitSet}
 use Rattle.refusals.specs.Questions.{Question, first_no}
-use Rattle.patterns.specs.Sets.{has}
+use Rattle.patterns.specs.Sets.{has, parity}
 use Rattle.patterns.specs.Patterns.{member, pattern, added, fitting, tidy}
 use Rattle.codes.specs.Layouts.{Layout}
-use Rattle.flips.specs.Flips.{remaining_after}
 
 -- the syndrome that is left to explain, the qubits that are open, the correction, and how many moves were accepted
 pub record Model : Type 0 where
@@ -26,7 +25,7 @@ counted m = record { remaining = m.remaining; opened = m.opened; correction = m.
 -- the correction changes on the qubits of the list, and the remaining syndrome by their syndrome
 abbrev pub changed : Layout → Model → List ℕ → Model
 changed c m f = record {
-  remaining = remaining_after c m.remaining f;
+  remaining = added c.checks m.remaining (λ u. parity (has f) (c.of_check u));
   opened = m.opened;
   correction = added c.qubits m.correction (has f);
   moves = m.moves;

@@ -5,7 +5,7 @@ use Rattle.refusals.specs.Questions.{Question, first_no}
 use Rattle.patterns.specs.Sets.{has}
 use Rattle.patterns.specs.Patterns.{member}
 use Rattle.codes.specs.Layouts.{Layout}
-use Rattle.scans.specs.Scans.{single, all_in, meeting}
+pub use Rattle.scans.specs.Scans.{single, all_in, meeting}
 use Rattle.flips.specs.Flips.{with_fall, flip_set}
 use Rattle.moves.specs.Jobs.{Model, Outcome, refused_or, pattern_questions, counted, changed, closed}
 
