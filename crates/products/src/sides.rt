@@ -66,7 +66,7 @@ pub(crate) fn first_moves<S: Side>(side: &S, width: u32, x: u32, k: u32) -> Opti
     requires bounded { Bounded (S.nodes side.now) (S.joined side.now) }
     requires width_nonzero { 0 < width }
     requires width_le_most_nodes { width ≤ most_nodes }
-    requires width_bound { x / width < S.nodes side.now }
+    requires first_bound { x / width < S.nodes side.now }
     ensures value { result ≡ slice_get (by_first width (S.joined side.now) x) k }
     ensures bound { IfSome result (λ y. y < 9216) }
 {

@@ -4,7 +4,7 @@ use mathlib.Core.Path.{fun_ext}
 use Rattle.std.proofs.lemmas.Bool.{cases_lt}
 use Rattle.codes.specs.Layouts.{Layout, Sound}
 use Rattle.tabled_codes.specs.declared.table.Table.{Table}
-use Rattle.tabled_codes.specs.Rows.{row_at, over, Light, sizes_of, places_of}
+use Rattle.tabled_codes.specs.Rows.{row_at, Light, sizes_of, places_of}
 use Rattle.tabled_codes.specs.Laid.{nodes_of, rows_over, laid}
 use Rattle.tabled_codes.proofs.Reading.{over_here, over_past}
 use Rattle.tabled_codes.proofs.Writing.{length_sizes, row_told}

@@ -1,5 +1,5 @@
 -- Rows of numbers in flat tables: a size for each node, and places for its neighbours, as many as a node of a code may have. Assumes nothing.
-use Rattle.std.specs.Prelude.{◌≡◌, ℕ, ◌*◌, ◌/◌, ◌%◌, ◌<◌, ◌≤◌, cond, List, map, length, take, drop, nat_lt, slice_index}
+use Rattle.std.specs.Prelude.{ℕ, ◌*◌, ◌/◌, ◌%◌, ◌<◌, ◌≤◌, cond, List, map, length, take, drop, nat_lt, slice_index}
 use Rattle.std.specs.List.{range_with_len}
 use Rattle.codes.specs.Layouts.{most_weight}
 

@@ -12,8 +12,8 @@ use std::alloc::Global;
 
 // The size of each node.
 fn sizes<F: Family>(heap: Global, family: &F) -> Result<Vec<u8>, Refusal>
-    requires { Light (nodes family.now) (rows family.now) }
-    ensures { MatchResult result (λ v. v.items ≡ sizes_of (nodes family.now) (rows family.now)) (λ e. e ≡ OutOfMemory) }
+    requires { Light (F.nodes family.now) (F.rows family.now) }
+    ensures { MatchResult result (λ v. v.items ≡ sizes_of (F.nodes family.now) (F.rows family.now)) (λ e. e ≡ OutOfMemory) }
 {
     let count = family.count();
     let mut sizes = Vec::with_capacity(heap, count as usize)?;
@@ -26,8 +26,8 @@ fn sizes<F: Family>(heap: Global, family: &F) -> Result<Vec<u8>, Refusal>
 
 // The neighbours of each node, and zeros in the places that are left over.
 fn places<F: Family>(heap: Global, family: &F) -> Result<Vec<u32>, Refusal>
-    requires { nodes family.now ≤ most_qubits }
-    ensures { MatchResult result (λ v. v.items ≡ places_of (nodes family.now * most_weight) (rows family.now)) (λ e. e ≡ OutOfMemory) }
+    requires { F.nodes family.now ≤ most_qubits }
+    ensures { MatchResult result (λ v. v.items ≡ places_of (F.nodes family.now * most_weight) (F.rows family.now)) (λ e. e ≡ OutOfMemory) }
 {
     let count = family.count() * MOST_WEIGHT;
     let mut places = Vec::with_capacity(heap, count as usize)?;
@@ -42,11 +42,11 @@ fn places<F: Family>(heap: Global, family: &F) -> Result<Vec<u32>, Refusal>
 
 // The table of the family.
 pub(crate) fn write_table<F: Family>(heap: Global, family: &F) -> Result<Table, Refusal>
-    requires few { nodes family.now ≤ most_qubits }
-    requires light { Light (nodes family.now) (rows family.now) }
+    requires few { F.nodes family.now ≤ most_qubits }
+    requires light { Light (F.nodes family.now) (F.rows family.now) }
     ensures { MatchResult result
-        (λ t. (t.sizes.items ≡ sizes_of (nodes family.now) (rows family.now))
-        × (t.places.items ≡ places_of (nodes family.now * most_weight) (rows family.now)))
+        (λ t. (t.sizes.items ≡ sizes_of (F.nodes family.now) (F.rows family.now))
+        × (t.places.items ≡ places_of (F.nodes family.now * most_weight) (F.rows family.now)))
         (λ e. e ≡ OutOfMemory) }
 {
     let sizes = sizes(heap, family)?;

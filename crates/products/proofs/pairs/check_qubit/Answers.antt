@@ -19,7 +19,13 @@ second_moves-requires g c =
     let w = c.checks-m.result in
     let known : w ≡ b.checks = c.checks-m.ensures in
     let parts = told_parts w b.checks x a.variables known wb.some_checks here in
-    (checks_bounded b wb, parts.0, omega (arith, c.variables.ensures, wb.most_variables), omega (arith, parts.1, wa.most_variables), parts.2)
+    record {
+      bounded = checks_bounded b wb;
+      from_nonzero = parts.0;
+      to_le_most_nodes = omega (arith, c.variables.ensures, wb.most_variables);
+      first_bound = omega (arith, parts.1, wa.most_variables);
+      second_bound = parts.2;
+    }
 
 pub first_moves-requires : goal.first_moves-requires
 first_moves-requires g c =
@@ -35,7 +41,12 @@ first_moves-requires g c =
     let w = c.checks-m.result in
     let known : w ≡ b.checks = c.checks-m.ensures in
     let parts = told_parts w b.checks x a.variables known wb.some_checks here in
-    (variables_bounded a wa, parts.0, omega (arith, known, wb.most_checks), parts.1)
+    record {
+      bounded = variables_bounded a wa;
+      width_nonzero = parts.0;
+      width_le_most_nodes = omega (arith, known, wb.most_checks);
+      first_bound = parts.1;
+    }
 
 pub returns-then-k-size : goal.returns-then-k-size
 returns-then-k-size g c =

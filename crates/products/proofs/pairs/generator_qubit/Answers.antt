@@ -19,7 +19,12 @@ first_moves-requires g c =
     let w = c.variables-n.result in
     let known : w ≡ b.variables = c.variables-n.ensures in
     let parts = told_parts w b.variables x a.checks known wb.some_variables here in
-    (checks_bounded a wa, parts.0, omega (arith, known, wb.most_variables), parts.1)
+    record {
+      bounded = checks_bounded a wa;
+      width_nonzero = parts.0;
+      width_le_most_nodes = omega (arith, known, wb.most_variables);
+      first_bound = parts.1;
+    }
 
 pub second_moves-requires : goal.second_moves-requires
 second_moves-requires g c =
@@ -35,7 +40,13 @@ second_moves-requires g c =
     let w = c.variables-n.result in
     let known : w ≡ b.variables = c.variables-n.ensures in
     let parts = told_parts w b.variables x a.checks known wb.some_variables here in
-    (variables_bounded b wb, parts.0, omega (arith, c.checks.ensures, wb.most_checks), omega (arith, parts.1, wa.most_checks), parts.2)
+    record {
+      bounded = variables_bounded b wb;
+      from_nonzero = parts.0;
+      to_le_most_nodes = omega (arith, c.checks.ensures, wb.most_checks);
+      first_bound = omega (arith, parts.1, wa.most_checks);
+      second_bound = parts.2;
+    }
 
 pub returns-then-k-size : goal.returns-then-k-size
 returns-then-k-size g c =

@@ -14,7 +14,12 @@ first_moves-requires g c =
     let here : v < all = omega (arith, c.if-v-qubits.false, c.qubits.ensures) in
     let low : v < a.variables * b.variables = omega (arith, c.variable_pairs-start.ensures) in
     let parts = told_parts c.variables.result b.variables v a.variables c.variables.ensures wb.some_variables low in
-    (variables_bounded a wa, parts.0, omega (arith, c.variables.ensures, wb.most_variables), parts.1)
+    record {
+      bounded = variables_bounded a wa;
+      width_nonzero = parts.0;
+      width_le_most_nodes = omega (arith, c.variables.ensures, wb.most_variables);
+      first_bound = parts.1;
+    }
 
 pub second_moves-requires : goal.second_moves-requires
 second_moves-requires g c =
@@ -30,4 +35,10 @@ second_moves-requires g c =
     let known : start ≡ whole = c.variable_pairs-start.ensures in
     let inner : v - start < a.checks * b.checks = omega arith in
     let parts = told_parts c.checks.result b.checks (v - start) a.checks c.checks.ensures wb.some_checks inner in
-    (checks_bounded b wb, parts.0, omega (arith, c.variables-2.ensures, wb.most_variables), omega (arith, parts.1, wa.most_checks), parts.2)
+    record {
+      bounded = checks_bounded b wb;
+      from_nonzero = parts.0;
+      to_le_most_nodes = omega (arith, c.variables-2.ensures, wb.most_variables);
+      first_bound = omega (arith, parts.1, wa.most_checks);
+      second_bound = parts.2;
+    }

@@ -11,7 +11,7 @@ below g c =
     let s = c.args.side.now in
     let u = c.args.x / c.args.width in
     let v = c.in_ok-v.v in
-    pair_below v (c.args.x % c.args.width) c.args.width (c.requires.bounded u v c.requires.width_bound (found_at (g.S.Side.nodes s) (g.S.Side.joined s) u c.args.k c.requires.width_bound v c.in_ok-v.ensures).among) (omega (arith, mod_below c.args.x c.args.width c.requires.width_nonzero)) c.requires.width_le_most_nodes
+    pair_below v (c.args.x % c.args.width) c.args.width (c.requires.bounded u v c.requires.first_bound (found_at (g.S.Side.nodes s) (g.S.Side.joined s) u c.args.k c.requires.first_bound v c.in_ok-v.ensures).among) (omega (arith, mod_below c.args.x c.args.width c.requires.width_nonzero)) c.requires.width_le_most_nodes
 
 pub returns-in_err-v : goal.returns-in_err-v
 returns-in_err-v g c =
@@ -19,7 +19,7 @@ returns-in_err-v g c =
     let w = c.args.width in
     let x = c.args.x in
     record {
-      value = c.from_residual.ensures ∙ none_moved (g.S.Side.nodes s) (g.S.Side.joined s) (λ v. v * w + x % w) (x / w) c.args.k c.requires.width_bound c.in_err-v.ensures;
+      value = c.from_residual.ensures ∙ none_moved (g.S.Side.nodes s) (g.S.Side.joined s) (λ v. v * w + x % w) (x / w) c.args.k c.requires.first_bound c.in_err-v.ensures;
       bound = subst (λ r. IfSome r (λ y. y < 9216)) (sym c.from_residual.ensures) tt;
     }
 
@@ -35,6 +35,6 @@ returns g c =
     let w = c.args.width in
     let x = c.args.x in
     record {
-      value = moved (g.S.Side.nodes s) (g.S.Side.joined s) (λ v. v * w + x % w) (x / w) c.args.k c.requires.width_bound c.in_ok-v.v c.in_ok-v.ensures;
+      value = moved (g.S.Side.nodes s) (g.S.Side.joined s) (λ v. v * w + x % w) (x / w) c.args.k c.requires.first_bound c.in_ok-v.v c.in_ok-v.ensures;
       bound = below g (goal.at.returns g c).In_ok-v;
     }

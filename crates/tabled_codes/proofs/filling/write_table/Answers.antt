@@ -9,4 +9,8 @@ invariant_of-result g c =
     let s = c.in_ok-sizes.ensures in
     let p = c.in_ok-places.ensures in
     let count = ap length s ∙ length_sizes m rows in
-    (omega (arith, count, c.requires.few), (ap length p ∙ length_places m rows ∙ ap (λ n. n * 12) (sym count), (λ u. subst (λ l. get_or l u 0 ≤ 12) (sym s) (sizes_light m rows c.requires.light u), tt)))
+    record {
+      few = omega (arith, count, c.requires.few);
+      room = ap length p ∙ length_places m rows ∙ ap (λ n. n * 12) (sym count);
+      light = λ u. subst (λ l. get_or l u 0 ≤ 12) (sym s) (sizes_light m rows c.requires.light u);
+    }

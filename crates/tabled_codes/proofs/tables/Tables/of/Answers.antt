@@ -14,7 +14,10 @@ invariant_of-result g c =
     let k = c.in_ok-generators.ensures in
     let x = c.in_ok-by_check.ensures in
     let z = c.in_ok-by_generator.ensures in
-    (same_qubits l s checks generators by_check by_generator h k x z, (λ rest. ∣ sound_laid l s checks generators by_check by_generator h k x z rest ∣₁, tt))
+    record {
+      same_qubits = same_qubits l s checks generators by_check by_generator h k x z;
+      sound = λ rest. ∣ sound_laid l s checks generators by_check by_generator h k x z rest ∣₁;
+    }
 
 pub returns : goal.returns
 returns g c =
