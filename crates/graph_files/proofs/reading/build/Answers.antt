@@ -15,13 +15,10 @@ invariant_of-result c =
     let n = c.args.matrix.columns in
     let rows = c.args.matrix.bytes.now in
     let replies = yes_from_none (row_questions m n rows) c.requires.accepted in
-    let degrees = and_parts (few most_neighbours m n (entry n rows)) (few most_neighbours n m (turned_entry n rows)) replies.1.1.0 in (
-      ap (λ l. counted (length l)) made.0 ∙ ap counted (length_tabled m n (entry n rows)) ∙ c.requires.checks_counted,
-      (
-        ap (λ l. counted (length l)) made.1 ∙ ap counted (length_tabled n m (turned_entry n rows)) ∙ c.requires.columns_counted,
-        (
-          ap (short most_neighbours) made.0 ∙ short_tabled most_neighbours m n (entry n rows) degrees.0,
-          (ap (short most_neighbours) made.1 ∙ short_tabled most_neighbours n m (turned_entry n rows) degrees.1, tt),
-        ),
-      ),
-    )
+    let degrees = and_parts (few most_neighbours m n (entry n rows)) (few most_neighbours n m (turned_entry n rows)) replies.1.1.0 in
+    record {
+      checks_in_range = ap (λ l. counted (length l)) made.0 ∙ ap counted (length_tabled m n (entry n rows)) ∙ c.requires.checks_counted;
+      variables_in_range = ap (λ l. counted (length l)) made.1 ∙ ap counted (length_tabled n m (turned_entry n rows)) ∙ c.requires.columns_counted;
+      few_variables = ap (short most_neighbours) made.0 ∙ short_tabled most_neighbours m n (entry n rows) degrees.0;
+      few_checks = ap (short most_neighbours) made.1 ∙ short_tabled most_neighbours n m (turned_entry n rows) degrees.1;
+    }

@@ -17,11 +17,12 @@ build-requires c =
     let h = c.in_ok-head.head in
     let told = c.in_ok-head.ensures in
     let rows = h.matrix.bytes.now in
-    let heads = heads_asked f told.0 in (
-      checks_counted f rows h.checks h.matrix.columns heads told.1 told.2 told.3,
-      variables_counted f rows h.checks h.matrix.columns heads told.1 told.2 told.3,
-      rows_asked f rows h.checks h.matrix.columns heads told.1 told.2 told.3 told.0,
-    )
+    let heads = heads_asked f told.0 in
+    record {
+      checks_counted = checks_counted f rows h.checks h.matrix.columns heads told.1 told.2 told.3;
+      columns_counted = variables_counted f rows h.checks h.matrix.columns heads told.1 told.2 told.3;
+      accepted = rows_asked f rows h.checks h.matrix.columns heads told.1 told.2 told.3 told.0;
+    }
 
 pub returns : goal.returns
 returns c =

@@ -17,7 +17,7 @@ returns-then-out-size g c =
     record {
       value = sym (answered_short (file_of t) out short);
       after = sym (written_short (file_of t) out short);
-      reads-back = written_is_read t (g.met.G.Graph.wired c.args.graph.now);
+      reads_back = written_is_read t (g.met.G.Graph.wired c.args.graph.now);
     }
 
 pub returns : goal.returns
@@ -35,5 +35,5 @@ returns g c =
       after = ap₂ (λ x y. put_mid 9 k (x ++ post_of 0 9 out) y) (c.write_head.ensures ∙ ap₂ head_of c.variables-variables.ensures c.checks-checks.ensures) c.write_rows.ensures
           ∙ file_placed head rows out k refl (omega (arith, length_file t, length-append head rows))
           ∙ sym (written_room (file_of t) out enough);
-      reads-back = written_is_read t (g.met.G.Graph.wired c.args.graph.now);
+      reads_back = written_is_read t (g.met.G.Graph.wired c.args.graph.now);
     }
