@@ -1,5 +1,6 @@
 // Why a call was refused. A call asks its questions in a fixed order, and answers the first whose reply is no.
 #![tactic(auto)]
+
 ghost use Rattle.std.specs.Prelude.{◌≡◌};
 ghost use Rattle.refusals.specs.Questions.{number};
 ghost use Rattle.refusals.specs.declared.Refusal.TheVariants.{OutOfMemory};

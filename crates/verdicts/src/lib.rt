@@ -1,5 +1,6 @@
 // What is told of a job: where it stands.
 #![tactic(auto)]
+
 ghost use Rattle.std.specs.Prelude.{◌≡◌};
 ghost use Rattle.verdicts.specs.Words.{word};
 

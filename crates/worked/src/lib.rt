@@ -1,5 +1,6 @@
 // Worked examples: small graphs, their product codes and jobs on them, each with what comes out.
 #![tactic(auto)]
+
 ghost use Rattle.std.specs.Prelude.{◌≡◌, length};
 ghost use Rattle.worked.specs.Examples.{examples, All-hold};
 
