@@ -1,13 +1,13 @@
 -- From the best set of the open qubits to the flip of a generator. Assumes nothing.
-use Rattle.std.proofs.Common.{◌≡◌, ℕ, ◌-◌, ◌<◌, true, false, cond, ◌&&◌, ltb, List, [], Some, None, Option, sym, refl, ap, ◌∙◌, subst, ap₂}
+use Rattle.std.proofs.Common.{◌≡◌, ℕ, ◌-◌, ◌<◌, true, ◌&&◌, ltb, List, [], Some, None, Option, sym, refl, ap, ◌∙◌, ap₂}
 use Rattle.std.specs.Option.{option_map}
 use Rattle.std.proofs.lemmas.Bool.{lt-ltb, and_from, cond-true}
 use Rattle.patterns.specs.Sets.{has, parity}
-use Rattle.patterns.specs.Patterns.{member, added, weight, fitting, tidy}
+use Rattle.patterns.specs.Patterns.{member, weight, fitting, tidy}
 use Rattle.patterns.proofs.Lists.{parity_none}
 use Rattle.patterns.proofs.Added.{added_none}
 use Rattle.codes.specs.Layouts.{Layout}
-use Rattle.best_sets.specs.Best.{best_set, lowering}
+use Rattle.best_sets.specs.Best.{lowering}
 use Rattle.flips.specs.declared.flip.Flip.{Flip}
 use Rattle.flips.specs.Local.{picked, BestBy}
 use Rattle.flips.specs.Flips.{open_in, left_by, flip_set, with_fall, best_flip}

@@ -1,6 +1,5 @@
 -- From what the body of a flip does to what a flip is. Assumes nothing.
-use Rattle.std.proofs.Common.{◌≡◌, ℕ, ◌+◌, ◌<◌, min, true, false, ◌&&◌, ltb, List, [], ◌∷◌, length, Some, None, Ok, Option, sym, refl, ap, ◌∙◌, subst, ap₂, arith}
-use Rattle.std.specs.List.{AllByRecursion as All}
+use Rattle.std.proofs.Common.{◌≡◌, ℕ, ◌+◌, ◌<◌, min, true, ◌&&◌, ltb, List, [], ◌∷◌, length, Some, None, Ok, Option, sym, refl, ap, ◌∙◌, ap₂, arith}
 use Rattle.std.specs.Option.{option_map}
 use Rattle.std.proofs.lemmas.Bool.{lt-ltb}
 use Rattle.refusals.specs.declared.Refusal.TheVariants.{NumberOutOfRange}
@@ -13,9 +12,8 @@ use Rattle.patterns.proofs.Toggled.{toggled_all_is}
 use Rattle.codes.specs.Layouts.{Layout}
 use Rattle.best_sets.proofs.Laws.{lowering_inside, lowering_apart}
 use Rattle.flips.specs.Flips.{open_in, remaining_after, left_by, flip_set, with_fall, best_flip}
-use Rattle.flips.proofs.Gathered.{all_by_has}
 use Rattle.flips.proofs.Picked.{asked}
-use Rattle.moves.specs.Jobs.{Model, Outcome, refused_or, pattern_questions, counted, changed, most_moves}
+use Rattle.moves.specs.Jobs.{Model, Outcome, refused_or, pattern_questions, most_moves}
 use Rattle.moves.specs.Moves.{flip_questions, flip_by, flip_of}
 use Rattle.moves.proofs.Asked.{lengths_asked, clean_asked, model_same}
 

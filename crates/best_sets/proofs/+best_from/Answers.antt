@@ -1,5 +1,5 @@
-use Rattle.std.proofs.Common.{◌≡◌, ◌-◌, ◌<◌, ◌≤◌, true, false, length, take, drop, sym, ap, ◌∙◌, arith, rules, ltb-false, ltb-true, eqb-true}
-use Rattle.std.proofs.lemmas.List.{length-drop, length-take, take_rest}
+use Rattle.std.proofs.Common.{◌≤◌, length, arith, rules, ltb-false, ltb-true, eqb-true}
+use Rattle.std.proofs.lemmas.List.{length-drop, take_rest}
 use Rattle.best_sets.proofs.Steps.{room, room_less, small, walked_none, walked_some, walked_pair}
 use Rattle.best_sets.proofs.+best_from.Goals as goal
 

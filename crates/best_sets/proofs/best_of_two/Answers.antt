@@ -1,4 +1,4 @@
-use Rattle.std.proofs.Common.{◌+◌, ◌*◌, [], ◌∷◌, arith}
+use Rattle.std.proofs.Common.{◌+◌, ◌*◌, [], arith}
 use Rattle.best_sets.proofs.Steps.{walked_cons, walked_none}
 use Rattle.best_sets.proofs.best_of_two.Goals as goal
 

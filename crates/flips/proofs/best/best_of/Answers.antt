@@ -1,4 +1,4 @@
-use Rattle.std.proofs.Common.{◌≡◌, ℕ, ◌-◌, ◌≤◌, eqb, length, take, sym, refl, ap, ◌∙◌, subst, arith, length-take}
+use Rattle.std.proofs.Common.{◌≡◌, ◌-◌, ◌≤◌, eqb, length, take, sym, ap, ◌∙◌, subst, arith, length-take}
 use Rattle.patterns.specs.Patterns.{member}
 use Rattle.best_sets.specs.Walk.{weighed}
 use Rattle.flips.specs.Local.{Marks, Rows, BestBy}

@@ -1,4 +1,4 @@
-use Rattle.std.proofs.Common.{◌≡◌, ℕ, ◌+◌, List, [], ◌∷◌, ◌++◌, length, get_or, take, drop, sym, ap, ◌∙◌, subst, ap₂, append_assoc, append-nil, arith, length-set}
+use Rattle.std.proofs.Common.{◌+◌, [], ◌∷◌, ◌++◌, length, get_or, take, drop, sym, ap, ◌∙◌, ap₂, append_assoc, append-nil, arith, length-set}
 use Rattle.std.proofs.lemmas.List.{drop_all, take_more_set}
 use Rattle.flips.specs.Local.{picked}
 use Rattle.flips.proofs.Chosen.{picked_on, picked_off}

@@ -1,8 +1,8 @@
-use Rattle.std.proofs.Common.{◌≡◌, ◌+◌, ◌-◌, ◌<◌, ◌≤◌, length, take, drop, set, sym, ap, ◌∙◌, subst, arith, length-set}
+use Rattle.std.proofs.Common.{◌≡◌, ◌+◌, ◌-◌, ◌<◌, length, take, drop, sym, ap, ◌∙◌, arith, length-set}
 use Rattle.std.proofs.lemmas.List.{at_drop_all}
 use Rattle.patterns.specs.Sets.{has}
 use Rattle.matrices.proofs.Lookups.{Found, found_at, ended_at}
-use Rattle.flips.specs.Local.{gathered, with_new}
+use Rattle.flips.specs.Local.{gathered}
 use Rattle.flips.proofs.Gathered.{gathered_more, new_listed, old_listed}
 use Rattle.flips.proofs.gathering.gather.Goals as goal
 use Rattle.flips.proofs.gathering.gather.Goals.{In-Some, then-not-is_listed, else-not-is_listed}

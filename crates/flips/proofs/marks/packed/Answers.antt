@@ -1,6 +1,6 @@
-use Rattle.std.proofs.Common.{◌≡◌, ℕ, ◌+◌, ◌-◌, ◌<◌, ◌≤◌, true, false, eqb, List, [], length, get_or, take, drop, sym, refl, ap, ◌∙◌, subst, arith, take_all}
+use Rattle.std.proofs.Common.{ℕ, ◌+◌, false, eqb, List, [], get_or, take, sym, refl, ◌∙◌, subst, arith, take_all}
 use Rattle.std.proofs.lemmas.Bool.{both_ways, eq-eqb, ne_eqb}
-use Rattle.flips.specs.Local.{Marks, marked}
+use Rattle.flips.specs.Local.{Marks}
 use Rattle.flips.proofs.Marked.{marks_none, marks_next, marks_skip}
 use Rattle.flips.proofs.marks.packed.Goals as goal
 use Rattle.flips.proofs.marks.packed.Goals.{then-parity-eq1, else-parity-eq1}

@@ -1,4 +1,4 @@
-use Rattle.std.proofs.Common.{◌≡◌, ℕ, ◌+◌, ◌<◌, ◌≤◌, ◌≢◌, ◌++◌, length, get_or, take, drop, set, sym, refl, ap, ◌∙◌, subst, ap₂, arith, length-set, length-take, get_or-set_other, get_or-take}
+use Rattle.std.proofs.Common.{◌≡◌, ◌+◌, ◌<◌, ◌≢◌, ◌++◌, length, get_or, take, drop, sym, ap, ◌∙◌, subst, ap₂, arith, length-set, length-take, get_or-set_other, get_or-take}
 use Rattle.flips.specs.Local.{carried}
 use Rattle.flips.proofs.Ordered.{insert_swap, insert_keep, insert_end}
 use Rattle.flips.proofs.rising.insert.Goals as goal

@@ -1,9 +1,8 @@
-use Rattle.std.proofs.Common.{◌≡◌, ◌+◌, ◌<◌, ◌≤◌, ◌&&◌, length, get_or, take, drop, sym, refl, ap, ◌∙◌, subst, ap₂, arith, take_all}
+use Rattle.std.proofs.Common.{◌≡◌, length, take, sym, ap, ◌∙◌, subst, ap₂, arith}
 use Rattle.patterns.specs.Sets.{has}
 use Rattle.patterns.specs.Patterns.{member}
 use Rattle.best_sets.specs.Rising.{Rising}
 use Rattle.flips.specs.Local.{carried}
-use Rattle.flips.specs.Flips.{open_in}
 use Rattle.matrices.proofs.Lookups.{Found, found_at, ended_at}
 use Rattle.flips.proofs.Ordered.{rises_carried, none_yet, open_more, open_skip, open_all}
 use Rattle.flips.proofs.rising.open_qubits.Goals as goal

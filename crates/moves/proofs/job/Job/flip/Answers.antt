@@ -1,10 +1,8 @@
-use Rattle.std.proofs.Common.{◌≡◌, ℕ, ◌<◌, ltb, List, [], ◌∷◌, length, sym, ap, ◌∙◌, subst}
-use Rattle.std.specs.List.{AllByRecursion as All}
+use Rattle.std.proofs.Common.{◌<◌, ltb, [], ◌∷◌, sym, subst}
 use Rattle.std.proofs.lemmas.Result.{err_from_is_err_and}
 use Rattle.refusals.specs.declared.Refusal.TheVariants.{NumberOutOfRange}
 use Rattle.refusals.specs.Questions.{first_no}
 use Rattle.refusals.proofs.Asking.{first_no_front, answer_ok, answer_err}
-use Rattle.patterns.specs.Sets.{Apart}
 use Rattle.matrices.proofs.Lookups.{size_within}
 use Rattle.flips.specs.Flips.{flip_set}
 use Rattle.flips.specs.Held.{told}
