@@ -1,5 +1,6 @@
 // Trials of patterns, graphs and graph files on examples. Every expected value was worked out by hand.
 #![tactic(auto)]
+
 #[cfg(test)]
 mod cyclic_trials;
 #[cfg(test)]
