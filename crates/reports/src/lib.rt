@@ -1,5 +1,6 @@
 // Reports: the five lines of a decoded job, and the line of a refused one.
 #![tactic(auto)]
+
 mod pieces;
 pub mod refusal_line;
 pub mod report;

@@ -27,13 +27,13 @@ pub product_checks-checks-requires : goal.product_checks-checks-requires
 product_checks-checks-requires c =
     let asked = c.in_ok-asked.ensures in
     let small = small_counts c.in_ok-head.head.graph.bytes.now asked.0 in
-    (omega (arith, asked.1, small.0), omega (arith, asked.2, small.1))
+    record { variables_le_most_nodes = omega (arith, asked.1, small.0); checks_le_most_nodes = omega (arith, asked.2, small.1) }
 
 pub product_qubits-qubits-requires : goal.product_qubits-qubits-requires
 product_qubits-qubits-requires c =
     let asked = c.in_ok-asked.ensures in
     let small = small_counts c.in_ok-head.head.graph.bytes.now asked.0 in
-    (omega (arith, asked.1, small.0), omega (arith, asked.2, small.1))
+    record { variables_le_most_nodes = omega (arith, asked.1, small.0); checks_le_most_nodes = omega (arith, asked.2, small.1) }
 
 pub read_patterns-requires : goal.read_patterns-requires
 read_patterns-requires c =

@@ -3,7 +3,7 @@ use Rattle.reports.proofs.ReadBack.{report_determines}
 use Rattle.reports.proofs.writing.write_report.Goals as goal
 
 pub returns-in_err-ask : goal.returns-in_err-ask
-returns-in_err-ask g c = record { value = search rules; after = search rules; reads-back = report_determines }
+returns-in_err-ask g c = record { value = search rules; after = search rules; reads_back = report_determines }
 
 pub returns : goal.returns
-returns g c = record { value = search rules; after = search rules; reads-back = report_determines }
+returns g c = record { value = search rules; after = search rules; reads_back = report_determines }
