@@ -37,7 +37,7 @@ fn flips<C: Code>(
             correction: *corrected,
             moves: 4,
         };
-        crate::trying::stands(rt, &job, after).note(format_args!("case {i}"))?;
+        crate::trying::stands(rt, &job, after, i);
     }
     Ok(())
 }
@@ -93,6 +93,7 @@ fn repeated_and_empty_rows_are_flipped_too(rt: HostRuntime) -> Result<(), Fail> 
         Call::Flip(0),
         Some(16),
         stuck,
+        2,
     )?;
     tries(
         &rt,
@@ -102,6 +103,7 @@ fn repeated_and_empty_rows_are_flipped_too(rt: HostRuntime) -> Result<(), Fail> 
         Call::Flip(1),
         Some(16),
         stuck,
+        3,
     )?;
     tries(
         &rt,
@@ -111,6 +113,7 @@ fn repeated_and_empty_rows_are_flipped_too(rt: HostRuntime) -> Result<(), Fail> 
         Call::Prune(1, 0),
         Some(14),
         stuck,
+        4,
     )?;
     tries(
         &rt,
@@ -120,6 +123,7 @@ fn repeated_and_empty_rows_are_flipped_too(rt: HostRuntime) -> Result<(), Fail> 
         Call::Peel(1),
         Some(13),
         stuck,
+        5,
     )?;
     // both checks of qubit 0 remain, and both change with it
     let before = State {
@@ -134,7 +138,16 @@ fn repeated_and_empty_rows_are_flipped_too(rt: HostRuntime) -> Result<(), Fail> 
         correction: b"\x01",
         moves: 1,
     };
-    tries(&rt, rt.alloc(), &code, before, Call::Peel(2), None, after)
+    tries(
+        &rt,
+        rt.alloc(),
+        &code,
+        before,
+        Call::Peel(2),
+        None,
+        after,
+        6,
+    )
 }
 
 // A graph of one variable and one check that are not joined: two qubits, one check and one generator, both empty.
@@ -158,6 +171,7 @@ fn empty_generators_allow_no_move(rt: HostRuntime) -> Result<(), Fail> {
         Call::Flip(0),
         Some(16),
         state,
+        0,
     )?;
     tries(
         &rt,
@@ -167,6 +181,7 @@ fn empty_generators_allow_no_move(rt: HostRuntime) -> Result<(), Fail> {
         Call::Prune(0, 0),
         Some(14),
         state,
+        1,
     )?;
     tries(
         &rt,
@@ -176,6 +191,7 @@ fn empty_generators_allow_no_move(rt: HostRuntime) -> Result<(), Fail> {
         Call::Peel(0),
         Some(13),
         state,
+        2,
     )
 }
 
@@ -200,5 +216,6 @@ fn a_prune_keeps_what_a_flip_did(rt: HostRuntime) -> Result<(), Fail> {
         correction: b"\x01\x00",
         moves: 2,
     };
-    crate::trying::stands(&rt, &job, after)
+    crate::trying::stands(&rt, &job, after, 0);
+    Ok(())
 }

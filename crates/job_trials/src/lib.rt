@@ -1,5 +1,6 @@
 // Trials of jobs and their moves on examples. Every expected value was worked out by hand.
 #![tactic(auto)]
+
 #[cfg(test)]
 mod flipping_trials;
 #[cfg(test)]

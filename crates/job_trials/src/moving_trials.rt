@@ -25,6 +25,7 @@ fn decodes<C: Code>(
     first: (u32, u8),
     second: (u32, u8),
     expected: &[u8],
+    case: usize,
 ) -> Result<(), Fail> {
     let mut remaining = *b"\xFF";
     let mut opened = *b"\xFF\xFF";
@@ -45,15 +46,16 @@ fn decodes<C: Code>(
         correction: expected,
         moves: 3,
     };
-    stands(rt, &job, end)
+    stands(rt, &job, end, case);
+    Ok(())
 }
 
 // The corrections {9} and {0, 3} differ by {0, 3, 9}, which is generator 0.
 #[test]
 fn a_generator_parts_what_two_prunes_lead_to(rt: HostRuntime) -> Result<(), Fail> {
     let code = example_code(rt.alloc())?;
-    decodes(&rt, &code, 0, (9, 1), (3, 0), b"\x00\x02")?;
-    decodes(&rt, &code, 9, (0, 1), (3, 1), b"\x09\x00")
+    decodes(&rt, &code, 0, (9, 1), (3, 0), b"\x00\x02", 0)?;
+    decodes(&rt, &code, 9, (0, 1), (3, 1), b"\x09\x00", 1)
 }
 
 #[test]
@@ -113,8 +115,8 @@ fn moves_change_what_they_say(rt: HostRuntime) -> Result<(), Fail> {
             *call,
             None,
             state(*after),
-        )
-        .note(format_args!("case {i}"))?;
+            i,
+        )?;
     }
     Ok(())
 }

@@ -21,7 +21,7 @@ fn refuses<'x, C: Code>(
             correction: *correction,
             moves: 7,
         };
-        tries(rt, heap, code, state, *call, Some(*number), state).note(format_args!("case {i}"))?;
+        tries(rt, heap, code, state, *call, Some(*number), state, i)?;
     }
     Ok(())
 }
@@ -196,5 +196,6 @@ fn without_checks_no_peel_is_accepted(rt: HostRuntime) -> Result<(), Fail> {
         Call::Prune(1, 2),
         None,
         after,
+        0,
     )
 }

@@ -23,9 +23,15 @@ type Ran<'a> = (
     &'a [u8],
 );
 
-fn told<C: Code>(rt: &impl Abort, code: &C, job: &Job<'_>, word: &[u8]) -> Result<(), Fail> {
+fn told<C: Code>(
+    rt: &impl Abort,
+    code: &C,
+    job: &Job<'_>,
+    word: &[u8],
+    case: usize,
+) -> Result<(), Fail> {
     let verdict = verdict(code, job).ok().ok_or("refused")?;
-    assert_eq!(rt; verdict.word(), word);
+    assert_eq!(rt; verdict.word(), word, "case {case}");
     Ok(())
 }
 
@@ -41,7 +47,7 @@ fn runs<C: Code>(rt: &impl Abort, heap: Global, code: &C, cases: &[Ran<'_>]) -> 
             moves: 5,
         };
         assert!(rt; job.open(code, *syndrome, *erasure).is_ok());
-        told(rt, code, &job, *first).note(format_args!("case {i}"))?;
+        told(rt, code, &job, *first, i)?;
         let ran = run(code, &mut job).ok().ok_or("refused")?;
         let (peels, prunes, flips, word) = *end;
         assert_eq!(rt;
@@ -56,8 +62,8 @@ fn runs<C: Code>(rt: &impl Abort, heap: Global, code: &C, cases: &[Ran<'_>]) -> 
             correction: *corrected,
             moves: peels.saturating_add(prunes).saturating_add(flips),
         };
-        stands(rt, &job, after).note(format_args!("case {i}"))?;
-        told(rt, code, &job, word).note(format_args!("case {i}"))?;
+        stands(rt, &job, after, i);
+        told(rt, code, &job, word, i)?;
     }
     Ok(())
 }
@@ -190,7 +196,7 @@ fn runs_and_verdicts_ask_in_order(rt: HostRuntime) -> Result<(), Fail> {
         (b"\x05", b"\x09\x22", b"\x00\x00", 6),
         (b"\x05", b"\x09\x02", b"\x00\x20", 6),
     ];
-    for (remaining, opened, corrected, number) in cases.iter() {
+    for (i, (remaining, opened, corrected, number)) in cases.iter().enumerate() {
         let mut bits = Vec::from_slice(rt.alloc(), *remaining)?;
         let mut open = Vec::from_slice(rt.alloc(), *opened)?;
         let mut correction = Vec::from_slice(rt.alloc(), *corrected)?;
@@ -201,16 +207,16 @@ fn runs_and_verdicts_ask_in_order(rt: HostRuntime) -> Result<(), Fail> {
             moves: 8,
         };
         let asked = verdict(&code, &job).err().ok_or("accepted")?;
-        assert_eq!(rt; asked.number(), *number);
+        assert_eq!(rt; asked.number(), *number, "case {i}");
         let ran = run(&code, &mut job).err().ok_or("accepted")?;
-        assert_eq!(rt; ran.number(), *number);
+        assert_eq!(rt; ran.number(), *number, "case {i}");
         let same = State {
             remaining: *remaining,
             opened: *opened,
             correction: *corrected,
             moves: 8,
         };
-        stands(&rt, &job, same)?;
+        stands(&rt, &job, same, i);
     }
     Ok(())
 }

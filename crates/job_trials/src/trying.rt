@@ -41,16 +41,16 @@ pub enum Call<'a> {
     Flip(u32),
 }
 
-fn same(rt: &impl Abort, left: &[u8], right: &[u8]) {
-    assert_eq!(rt; left, right);
+fn same(rt: &impl Abort, left: &[u8], right: &[u8], case: usize) {
+    assert_eq!(rt; left, right, "case {case}");
 }
 
-pub(crate) fn stands(rt: &impl Abort, job: &Job<'_>, state: State<'_>) -> Result<(), Fail> {
-    same(rt, job.remaining, state.remaining);
-    same(rt, job.opened, state.opened);
-    same(rt, job.correction, state.correction);
-    assert_eq!(rt; job.moves, state.moves);
-    Ok(())
+// The number of the case is told where the job does not stand so.
+pub(crate) fn stands(rt: &impl Abort, job: &Job<'_>, state: State<'_>, case: usize) {
+    same(rt, job.remaining, state.remaining, case);
+    same(rt, job.opened, state.opened, case);
+    same(rt, job.correction, state.correction, case);
+    assert_eq!(rt; job.moves, state.moves, "case {case}");
 }
 
 // The number of the question that the call answers with no; nothing where it is accepted.
@@ -73,6 +73,7 @@ pub(crate) fn tries<C: Code>(
     call: Call<'_>,
     number: Option<u8>,
     after: State<'_>,
+    case: usize,
 ) -> Result<(), Fail> {
     let mut remaining = Vec::from_slice(heap, before.remaining)?;
     let mut opened = Vec::from_slice(heap, before.opened)?;
@@ -83,6 +84,7 @@ pub(crate) fn tries<C: Code>(
         correction: correction.as_mut_slice(),
         moves: before.moves,
     };
-    assert_eq!(rt; refused(code, &mut job, call), number);
-    stands(rt, &job, after)
+    assert_eq!(rt; refused(code, &mut job, call), number, "case {case}");
+    stands(rt, &job, after, case);
+    Ok(())
 }
