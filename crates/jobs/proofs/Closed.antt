@@ -14,7 +14,7 @@ use Rattle.jobs.specs.declared.closing.Closing.TheVariants.{Peel, Prune}
 use Rattle.jobs.specs.declared.closing.Cursors.{Cursors}
 use Rattle.jobs.specs.Choosing.{or_else, lowest, least}
 use Rattle.jobs.specs.Moving.{peel, prune, moved, meets_in_one, dangling, wholly_open, next_prune, next_flip, next}
-use Rattle.jobs.specs.Closings.{as_move, shut_by, Passed, NothingCloses, NextClosing, cursors_after}
+use Rattle.jobs.specs.Closings.{as_move, shut_by, Passed, NextClosing, cursors_after}
 use Rattle.jobs.proofs.Picks.{lowest_some, least_in, at_one}
 use Rattle.jobs.proofs.Outcomes.{prune_accepted}
 use Rattle.jobs.proofs.Fits.{fits_asked}

@@ -1,4 +1,4 @@
-use Rattle.std.proofs.Common.{◌≡◌, ◌+◌, ◌<◌, sym, refl, ap, subst, arith}
+use Rattle.std.proofs.Common.{◌<◌, sym, refl, subst, arith}
 use Rattle.moves.specs.Jobs.{Model}
 use Rattle.moves.specs.Held.{model}
 use Rattle.jobs.specs.declared.counting.Counts.{Counts}

@@ -1,8 +1,8 @@
-use Rattle.std.proofs.Common.{◌≡◌, ◌+◌, ◌<◌, Some, None, sym, refl, ap, ◌∙◌, subst, ap₂, arith}
+use Rattle.std.proofs.Common.{◌<◌, sym, ap, subst, arith}
 use Rattle.moves.specs.Jobs.{Model}
 use Rattle.moves.specs.Held.{model}
 use Rattle.jobs.specs.declared.counting.Counts.{Counts}
-use Rattle.jobs.specs.Moving.{flip, moved, next}
+use Rattle.jobs.specs.Moving.{flip}
 use Rattle.jobs.specs.Runs.{enough}
 use Rattle.jobs.specs.Closings.{NothingCloses}
 use Rattle.jobs.specs.Progress.{with_move, Came}
