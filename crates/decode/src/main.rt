@@ -1,5 +1,6 @@
 // Reads a job file on standard input, decodes it, and prints the report, or why the file was refused.
 #![tactic(auto)]
+
 use anyhow::anyhow;
 use decoding::jobs_of_files::decode_file;
 use std::io;

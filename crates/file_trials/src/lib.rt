@@ -1,4 +1,5 @@
 // Trials of job files and of what is written of them.
 #![tactic(auto)]
+
 #[cfg(test)]
 mod decoding_trials;
