@@ -1,6 +1,6 @@
 -- The sets of a list are what a test can keep of it. Assumes nothing.
 use Rattle.std.proofs.Common.{◌≡◌, ℕ, true, false, cond, ◌||◌, eqb, List, [], ◌∷◌, map, filter, sym, refl, ap, ◌∙◌, ap₂, ⊎_elim}
-use Rattle.std.specs.List.{ContainsAt as Has, AllByRecursion as All}
+use Rattle.std.specs.List.{ContainsAt as Has, AllByRecursion}
 use Rattle.std.proofs.ByRecursion.{All-append, All-map, All-weaker, all-has, all_has_itself, has_append_left, has_append_right}
 use Rattle.std.proofs.lemmas.Bool.{ne_eqb, cases_Bool, both_ways, or_left, or_right, or_cases, cond-true, cond-false, cond_both}
 use Rattle.patterns.specs.Sets.{Set, Inside, has, Apart}
@@ -10,7 +10,7 @@ use Rattle.best_sets.specs.Best.{sets}
 -- ---- each that a test keeps is one of the sets
 
 -- what holds of a mapped list holds of the values of the list's elements
-all_unmap : {X Y : Type 0} (P : Y → Type 0) (f : X → Y) (xs : List X) → All P (map f xs) → All (λ x. P (f x)) xs
+all_unmap : {X Y : Type 0} (P : Y → Type 0) (f : X → Y) (xs : List X) → AllByRecursion P (map f xs) → AllByRecursion (λ x. P (f x)) xs
 all_unmap P f [] h = tt
 all_unmap P f (x ∷ xs) h = (h.0, all_unmap P f xs h.1)
 
@@ -32,7 +32,7 @@ kept_is_set s (x ∷ xs) =
 -- what holds of all sets of a list, where each number of it is taken or passed over
 sets_all : (P : List ℕ → List ℕ → Type 0) → P [] []
     → ((x : ℕ) (xs f : List ℕ) → P xs f → P (x ∷ xs) (x ∷ f)) → ((x : ℕ) (xs f : List ℕ) → P xs f → P (x ∷ xs) f)
-    → (xs : List ℕ) → All (P xs) (sets xs)
+    → (xs : List ℕ) → AllByRecursion (P xs) (sets xs)
 sets_all P none taken passed [] = (none, tt)
 sets_all P none taken passed (x ∷ xs) =
     let rest = sets_all P none taken passed xs in

@@ -1,6 +1,6 @@
 -- Gathering the checks of some qubits. Assumes nothing.
 use Rattle.std.proofs.Common.{◌≡◌, ℕ, zero, suc, ◌+◌, ◌<◌, Bool, true, false, cond, ◌||◌, eqb, List, [], ◌∷◌, ◌++◌, length, get_or, take, drop, set, sym, refl, ap, ◌∙◌, subst, ap₂, arith}
-use Rattle.std.specs.List.{AllByRecursion as All}
+use Rattle.std.specs.List.{AllByRecursion}
 use Rattle.std.proofs.lemmas.List.{at_drop_more, take_more, take_more_set, drop_more}
 use Rattle.std.proofs.ByRecursion.{All-append}
 use Rattle.std.proofs.lemmas.Bool.{eq-eqb, ne_eqb, eqb-true, both_ways, or_right, or_parts, or_from}
@@ -73,11 +73,11 @@ apart_gathered ds (u ∷ us) a = apart_gathered (with_new ds u) us (part (has ds
     part true e = a
     part false e = apart_added ds u a e
 
-pub all_gathered : (P : ℕ → Type 0) (ds us : List ℕ) → All P ds → All P us → All P (gathered ds us)
+pub all_gathered : (P : ℕ → Type 0) (ds us : List ℕ) → AllByRecursion P ds → AllByRecursion P us → AllByRecursion P (gathered ds us)
 all_gathered P ds [] a h = a
 all_gathered P ds (u ∷ us) a h = all_gathered P (with_new ds u) us (part (has ds u)) h.1
   where
-    part : (b : Bool) → All P (cond b ds (ds ++ u ∷ []))
+    part : (b : Bool) → AllByRecursion P (cond b ds (ds ++ u ∷ []))
     part true = a
     part false = All-append P ds (u ∷ []) a (h.0, tt)
 
@@ -101,16 +101,16 @@ pub local_apart : (c : Layout) (ds vs : List ℕ) → Apart ds → Apart (local_
 local_apart c ds [] a = a
 local_apart c ds (v ∷ vs) a = local_apart c (gathered ds (c.checks_of v)) vs (apart_gathered ds (c.checks_of v) a)
 
-pub all_by_has : (P : ℕ → Type 0) (us : List ℕ) → ((u : ℕ) → has us u ≡ true → P u) → All P us
+pub all_by_has : (P : ℕ → Type 0) (us : List ℕ) → ((u : ℕ) → has us u ≡ true → P u) → AllByRecursion P us
 all_by_has P [] f = tt
 all_by_has P (u ∷ us) f = (f u (has_here u us), all_by_has P us (λ x k. f x (or_right (eqb u x) (has us x) k)))
 
-pub local_within : (c : Layout) → Sound c → (ds vs : List ℕ) → All (λ u. u < c.checks) ds → All (λ v. v < c.qubits) vs → All (λ u. u < c.checks) (local_checks c ds vs)
+pub local_within : (c : Layout) → Sound c → (ds vs : List ℕ) → AllByRecursion (λ u. u < c.checks) ds → AllByRecursion (λ v. v < c.qubits) vs → AllByRecursion (λ u. u < c.checks) (local_checks c ds vs)
 local_within c sound ds [] a h = a
 local_within c sound ds (v ∷ vs) a h =
     local_within c sound (gathered ds (c.checks_of v)) vs (all_gathered (λ u. u < c.checks) ds (c.checks_of v) a (all_by_has (λ u. u < c.checks) (c.checks_of v) (λ u k. sound.by_check.column_within v u h.0 k))) h.1
 
-pub local_meets : (c : Layout) (ds vs : List ℕ) (u : ℕ) → has (local_checks c ds vs) u ≡ false → (has ds u ≡ false) × All (λ v. has (c.checks_of v) u ≡ false) vs
+pub local_meets : (c : Layout) (ds vs : List ℕ) (u : ℕ) → has (local_checks c ds vs) u ≡ false → (has ds u ≡ false) × AllByRecursion (λ v. has (c.checks_of v) u ≡ false) vs
 local_meets c ds [] u h = (h, tt)
 local_meets c ds (v ∷ vs) u h =
     let rest = local_meets c (gathered ds (c.checks_of v)) vs u h in
@@ -120,10 +120,10 @@ local_meets c ds (v ∷ vs) u h =
 -- what the local checks are known by
 pub record Known (c : Layout) (xs ds : List ℕ) : Type 0 where
   pub apart : Apart ds
-  pub checks : All (λ u. u < c.checks) ds
-  pub meets : (u : ℕ) → has ds u ≡ false → All (λ v. has (c.checks_of v) u ≡ false) xs
+  pub checks : AllByRecursion (λ u. u < c.checks) ds
+  pub meets : (u : ℕ) → has ds u ≡ false → AllByRecursion (λ v. has (c.checks_of v) u ≡ false) xs
 
-pub known : (c : Layout) → Sound c → (xs ds : List ℕ) → All (λ v. v < c.qubits) xs → ds ≡ local_checks c [] xs → Known c xs ds
+pub known : (c : Layout) → Sound c → (xs ds : List ℕ) → AllByRecursion (λ v. v < c.qubits) xs → ds ≡ local_checks c [] xs → Known c xs ds
 known c sound xs ds within e =
     subst (Known c xs) (sym e) (record {
       apart = local_apart c [] xs tt;

@@ -2,7 +2,7 @@
 use Rattle.std.proofs.Common.{◌≡◌, ℕ, zero, suc, ◌+◌, ◌*◌, ◌/◌, ◌%◌, ◌^◌, ◌<◌, ◌≤◌, Bool, true, false, ◌&&◌, eqb, List, [], ◌∷◌, ◌++◌, map, length, get_or, take, replicate, sym, refl, ap, ◌∙◌, ap₂, ⊎_elim, arith, lit<, length-set, get_or-set_other, get_or-set_same}
 use mir.Val.{bool_byte}
 use lib.Bits.{bit_xor, xor_lt}
-use Rattle.std.specs.List.{AllByRecursion as All}
+use Rattle.std.specs.List.{AllByRecursion}
 use Rattle.std.proofs.lemmas.Nat.{pow_below}
 use Rattle.std.proofs.lemmas.List.{get_or_past, take_more, length-take-le}
 use Rattle.std.proofs.ByRecursion.{All-get_or, All-set}
@@ -95,7 +95,7 @@ bits_marked ws k j h =
     (cases_eq (j / 64) (k / 64))
 
 -- what a change of place j leaves of the form of words
-words_marked : (ws : List ℕ) (j : ℕ) → length ws ≡ 3 → j < 192 → All (λ w. w < 2 ^ 64) ws → All (λ w. w < 2 ^ 64) (marked ws j)
+words_marked : (ws : List ℕ) (j : ℕ) → length ws ≡ 3 → j < 192 → AllByRecursion (λ w. w < 2 ^ 64) ws → AllByRecursion (λ w. w < 2 ^ 64) (marked ws j)
 unfolding marked
 words_marked ws j three h all =
     All-set (λ w. w < 2 ^ 64) ws (j / 64) (bit_xor (get_or ws (j / 64) 0) (2 ^ (j % 64)))

@@ -1,6 +1,6 @@
 -- Lists that rise. Assumes nothing.
 use Rattle.std.proofs.Common.{◌≡◌, ℕ, zero, suc, ◌+◌, ◌<◌, ◌≤◌, Bool, true, false, cond, ◌&&◌, ◌||◌, eqb, ltb, ◌⊎◌, List, [], ◌∷◌, ◌++◌, length, get_or, take, drop, set, sym, refl, ap, ◌∙◌, subst, ap₂, inl, inr, ⊎_elim, append_assoc, append-nil, arith, take_all}
-use Rattle.std.specs.List.{AllByRecursion as All}
+use Rattle.std.specs.List.{AllByRecursion}
 use Rattle.std.proofs.lemmas.List.{at_drop_more, at_drop_all, take_more, take_more_set}
 use Rattle.std.proofs.ByRecursion.{All-weaker, All-append}
 use Rattle.std.proofs.lemmas.Bool.{lt-ltb, le-ltb, ne_eqb, eqb-true, eqb-false, ltb-true, ltb-false, cases_eq, cases_lt, both_ways, or_cases, or_parts, and_right}
@@ -47,15 +47,15 @@ has_carried v (x ∷ xs) w = part (ltb v x) (has_carried x xs w) (has_carried v 
     part true p r = ap (λ b. eqb v w || b) p
     part false p r = ap (λ b. eqb x w || b) r ∙ swap (eqb x w) (eqb v w) (has xs w)
 
-all_carried : (P : ℕ → Type 0) (v : ℕ) (xs : List ℕ) → P v → All P xs → All P (carried v xs)
+all_carried : (P : ℕ → Type 0) (v : ℕ) (xs : List ℕ) → P v → AllByRecursion P xs → AllByRecursion P (carried v xs)
 all_carried P v [] p h = (p, tt)
 all_carried P v (x ∷ xs) p h = part (ltb v x) (all_carried P x xs h.0 h.1) (all_carried P v xs p h.1)
   where
-    part : (b : Bool) → All P (carried x xs) → All P (carried v xs) → All P (cond b (v ∷ carried x xs) (x ∷ carried v xs))
+    part : (b : Bool) → AllByRecursion P (carried x xs) → AllByRecursion P (carried v xs) → AllByRecursion P (cond b (v ∷ carried x xs) (x ∷ carried v xs))
     part true q r = (p, q)
     part false q r = (h.0, r)
 
-pub above_none : (x : ℕ) (s : List ℕ) → All (λ y. x < y) s → has s x ≡ false
+pub above_none : (x : ℕ) (s : List ℕ) → AllByRecursion (λ y. x < y) s → has s x ≡ false
 above_none x [] h = refl
 above_none x (y ∷ s) h = ap₂ ◌||◌ (ne_eqb y x (λ e. let k = h.0 in omega arith)) (above_none x s h.1)
 
@@ -71,7 +71,7 @@ rises_carried v (x ∷ xs) h f = part (ltb v x) refl (rises_carried x xs h.1 (ab
         let more : x < v = ⊎_elim (λ (z : x < v). z) (λ (z : v ≤ x). absurd (other (omega arith))) (cases_lt x v) in
         (all_carried (λ y. x < y) v xs more h.0, q)
 
-below_all : (x : ℕ) (s : List ℕ) (w : ℕ) → All (λ y. x < y) s → has s w ≡ true → x < w
+below_all : (x : ℕ) (s : List ℕ) (w : ℕ) → AllByRecursion (λ y. x < y) s → has s w ≡ true → x < w
 below_all x [] w h k = absurd (both_ways false refl k)
 below_all x (y ∷ s) w h k = ⊎_elim (λ e. let z = eqb-true y w e in let q = h.0 in omega arith) (λ e. below_all x s w h.1 e) (or_cases (eqb y w) (has s w) k)
 
@@ -91,16 +91,16 @@ rising_unique (x ∷ xs) (y ∷ ys) h k e =
 
 -- ---- the members of a set, in rising order
 
-members_below : (n : ℕ) (s : Set) → All (λ y. y < n) (members n s)
+members_below : (n : ℕ) (s : Set) → AllByRecursion (λ y. y < n) (members n s)
 members_below zero s = tt
 members_below (suc n) s =
     All-append (λ y. y < suc n) (members n s) (cond (s n) (n ∷ []) []) (All-weaker (λ y. y < n) (λ y. y < suc n) (λ y k. omega arith) (members n s) (members_below n s)) (part (s n))
   where
-    part : (b : Bool) → All (λ y. y < suc n) (cond b (n ∷ []) [])
+    part : (b : Bool) → AllByRecursion (λ y. y < suc n) (cond b (n ∷ []) [])
     part true = (omega arith, tt)
     part false = tt
 
-rises_append : (xs : List ℕ) (n : ℕ) → Rising xs → All (λ y. y < n) xs → Rising (xs ++ n ∷ [])
+rises_append : (xs : List ℕ) (n : ℕ) → Rising xs → AllByRecursion (λ y. y < n) xs → Rising (xs ++ n ∷ [])
 rises_append [] n h k = (tt, tt)
 rises_append (x ∷ xs) n h k = (All-append (λ y. x < y) xs (n ∷ []) h.0 (k.0, tt), rises_append xs n h.1 k.1)
 
@@ -115,7 +115,7 @@ rises_members (suc n) s = part (s n) (rises_members n s)
 pub rises_open : (c : Layout) (s : Set) (g : ℕ) → Rising (open_in c s g)
 rises_open c s g = rises_members c.qubits (λ v. has (c.of_generator g) v && s v)
 
-pub open_within : (c : Layout) (s : Set) (g : ℕ) → All (λ v. v < c.qubits) (open_in c s g)
+pub open_within : (c : Layout) (s : Set) (g : ℕ) → AllByRecursion (λ v. v < c.qubits) (open_in c s g)
 open_within c s g = members_below c.qubits (λ v. has (c.of_generator g) v && s v)
 
 pub has_open : (c : Layout) → Sound c → (s : Set) (g : ℕ) → g < c.generators → (w : ℕ) → has (open_in c s g) w ≡ (s w && has (c.of_generator g) w)

@@ -1,6 +1,6 @@
 -- The checks near some qubits, and sets of them as bits of three words. Assumes nothing.
 use Rattle.std.specs.Prelude.{◌≡◌, ℕ, zero, suc, ◌-◌, ◌/◌, ◌%◌, ◌^◌, ◌<◌, Bool, false, cond, List, [], ◌∷◌, ◌++◌, length, bit_xor, nat_lt, slice_index, slice_set}
-use Rattle.std.specs.List.{AllByRecursion as All}
+use Rattle.std.specs.List.{AllByRecursion}
 use Rattle.patterns.specs.Sets.{Set, has}
 use Rattle.patterns.specs.Patterns.{bit}
 use Rattle.best_sets.specs.Best.{best_set}
@@ -37,7 +37,7 @@ at (d ∷ ds) p (suc j) = at ds p j
 -- three words have a one at the places of those of ds that are in p, and nowhere else
 pub record Marks (ds : List ℕ) (p : Set) (ws : List ℕ) : Type 0 where
   pub three : length ws ≡ 3
-  pub words : All (λ w. w < 2 ^ 64) ws
+  pub words : AllByRecursion (λ w. w < 2 ^ 64) ws
   pub each : (j : ℕ) → bit_at ws j ≡ at ds p j
 
 -- 1 for yes, 0 for no

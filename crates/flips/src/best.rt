@@ -1,6 +1,6 @@
 // The best set of some open qubits.
 ghost use Rattle.std.specs.Prelude.{◌≡◌, ◌<◌, ◌≤◌, true, length, take, MatchOption};
-ghost use Rattle.std.specs.List.{AllByRecursion as All};
+ghost use Rattle.std.specs.List.{AllByRecursion};
 ghost use Rattle.patterns.specs.Sets.{Apart};
 ghost use Rattle.patterns.specs.Patterns.{fitting, tidy};
 ghost use Rattle.best_sets.specs.Rising.{Rising};
@@ -22,7 +22,7 @@ pub(crate) struct Best {
 // For each qubit the places of its checks among `checks`.
 fn rows_of<C: Code>(code: &C, qubits: &[u32], checks: &[u32]) -> [[u64; 3]; 12]
     requires qubits_len_bound { length qubits.now ≤ 12 }
-    requires in_range { All (λ v. v < (C.layout code.now).qubits) qubits.now }
+    requires in_range { AllByRecursion (λ v. v < (C.layout code.now).qubits) qubits.now }
     requires checks_len_bound { length checks.now ≤ 144 }
     requires apart { Apart checks.now }
     ensures long { length result ≡ 12 }
@@ -41,7 +41,7 @@ pub(crate) fn best_of<C: Code>(code: &C, remaining: &[u8], qubits: &[u32]) -> Op
     requires unused_zero { tidy (C.layout code.now).checks remaining.now ≡ true }
     requires qubits_len_bound { length qubits.now ≤ 12 }
     requires rising { Rising qubits.now }
-    requires in_range { All (λ v. v < (C.layout code.now).qubits) qubits.now }
+    requires in_range { AllByRecursion (λ v. v < (C.layout code.now).qubits) qubits.now }
     ensures { MatchOption result ⊥ (λ b. BestBy (left_by (C.layout code.now) remaining.now) qubits.now b.fall b.picks) }
 {
     let mut checks = [0u32; 144];

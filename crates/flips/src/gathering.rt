@@ -1,6 +1,6 @@
 // The checks that meet the qubits of one generator: at most twelve of each qubit, so at most 144.
 ghost use Rattle.std.specs.Prelude.{◌≡◌, ◌+◌, ◌<◌, ◌≤◌, false, [], length, take, MatchOption, slice_index};
-ghost use Rattle.std.specs.List.{AllByRecursion as All};
+ghost use Rattle.std.specs.List.{AllByRecursion};
 ghost use Rattle.patterns.specs.Sets.{has};
 ghost use Rattle.flips.specs.Local.{gathered, local_checks};
 
@@ -55,7 +55,7 @@ fn gather<C: Code>(code: &C, v: Qubit, checks: &mut [u32], count: usize) -> usiz
 // The checks that meet the qubits, each once, in front of the array; answers how many they are.
 pub(crate) fn local_checks<C: Code>(code: &C, qubits: &[u32], checks: &mut [u32]) -> usize
     requires qubits_len_bound { length qubits.now ≤ 12 }
-    requires in_range { All (λ v. v < (C.layout code.now).qubits) qubits.now }
+    requires in_range { AllByRecursion (λ v. v < (C.layout code.now).qubits) qubits.now }
     requires checks_len { length checks.old ≡ 144 }
     ensures is { take result checks.new ≡ local_checks (C.layout code.now) [] qubits.now }
     ensures few { result ≤ 144 }

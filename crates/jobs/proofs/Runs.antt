@@ -9,7 +9,7 @@ use Rattle.moves.specs.Jobs.{Model, most_moves, pattern_questions}
 use Rattle.jobs.specs.Choosing.{or_else, lowest, least}
 use Rattle.jobs.specs.Moving.{Move, peel, prune, flip, moved, moved_all, meets_in_one, dangling, wholly_open, lowerable, next_peel, next_prune, next_flip, next}
 use Rattle.jobs.specs.Runs.{onward, moves_of, enough, run_moves, peels, prunes, flips}
-use Rattle.jobs.specs.Laws.{All-accepted, only_flips, flips_last, RunEnds}
+use Rattle.jobs.specs.Laws.{AllAccepted, only_flips, flips_last, RunEnds}
 use Rattle.jobs.proofs.Picks.{mapped_some}
 use Rattle.jobs.proofs.Flipped.{flip_opened}
 use Rattle.jobs.proofs.Fits.{moved_fits}
@@ -27,7 +27,7 @@ module _ (c : Layout) (sound : Sound c) where
   -- ---- the end of a run
 
   abbrev Ends : Model → List Move → Type 0
-  Ends m ks = All-accepted c m ks × (next c (moved_all c m ks) ≡ None) × (m.moves ≤ most_moves → (moved_all c m ks).moves ≡ min (m.moves + length ks) most_moves)
+  Ends m ks = AllAccepted c m ks × (next c (moved_all c m ks) ≡ None) × (m.moves ≤ most_moves → (moved_all c m ks).moves ≡ min (m.moves + length ks) most_moves)
 
   ends : (n : ℕ) (m : Model) → first_no (pattern_questions c m) ≡ None → enough m ≤ n → Ends m (moves_of n c m)
   ends zero m asked h = (tt, none_left c sound m asked h, λ l. omega arith)

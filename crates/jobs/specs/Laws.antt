@@ -14,9 +14,9 @@ use Rattle.jobs.specs.Calls.{move, refused, call}
 -- ---- runs
 
 -- none of the moves is refused, made one after another
-abbrev pub All-accepted : Layout → Model → List Move → Type 0
-All-accepted c m [] = Unit {0}
-All-accepted c m (k ∷ ks) = ((e : Refusal) → (call c m (move k)).0 ≢ refused e) × All-accepted c (moved c m k) ks
+abbrev pub AllAccepted : Layout → Model → List Move → Type 0
+AllAccepted c m [] = Unit {0}
+AllAccepted c m (k ∷ ks) = ((e : Refusal) → (call c m (move k)).0 ≢ refused e) × AllAccepted c (moved c m k) ks
 
 -- whether every move is a flip
 abbrev pub only_flips : List Move → Bool
@@ -35,7 +35,7 @@ flips_last (flip g ∷ ks) = only_flips ks
 -- what is asked of the moves of a run
 pub record WholeRun (c : Layout) (m : Model) (ks : List Move) : Type 0 where
   -- none is refused
-  pub accepted : All-accepted c m ks
+  pub accepted : AllAccepted c m ks
   -- after them no move applies
   pub none_applies : next c (moved_all c m ks) ≡ None
   -- and the verdict is another than that the job moves

@@ -1,6 +1,6 @@
 -- Worked examples: small graphs, their product codes and jobs on them, each with what comes out. Assumes nothing.
 use Rattle.std.specs.Prelude.{◌≡◌, ℕ, List, [], ◌∷◌, map, replicate, None, Ok, Option, Result}
-use Rattle.std.specs.List.{range_with_len, AllByRecursion as All}
+use Rattle.std.specs.List.{range_with_len, AllByRecursion}
 use Rattle.refusals.specs.declared.Refusal.{Refusal}
 use Rattle.refusals.specs.Questions.{first_no, answer, where_accepted}
 use Rattle.patterns.specs.Sets.{Set, ◌⊕◌, members, has}
@@ -198,5 +198,5 @@ abbrev pub Holds : Example → Type 0
 Holds (a gives f) = outcome a ≡ f
 
 -- each of the examples holds
-unfoldable pub All-hold : Type 0
-All-hold = All Holds examples
+unfoldable pub AllHold : Type 0
+AllHold = AllByRecursion Holds examples

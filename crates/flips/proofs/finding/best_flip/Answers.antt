@@ -1,5 +1,5 @@
 use Rattle.std.proofs.Common.{◌≡◌, ◌-◌, ◌<◌, ◌≤◌, true, length, take, sym, ap, ◌∙◌, subst, arith, length-take}
-use Rattle.std.specs.List.{AllByRecursion as All}
+use Rattle.std.specs.List.{AllByRecursion}
 use Rattle.patterns.specs.Patterns.{member, fitting, tidy}
 use Rattle.best_sets.specs.Rising.{Rising}
 use Rattle.flips.specs.Flips.{open_in}
@@ -29,7 +29,7 @@ below g c = omega (arith, c.if-g-generators.false, c.generators.ensures)
 pub best_of-requires : goal.best_of-requires
 best_of-requires g c =
     let s = (goal.at.best_of-requires g c).After-open_qubits-count in
-    let l = g.C.Code.layout c.args.code.now in record { fits = long g s; unused_zero = clean g s; qubits_len_bound = few g s; rising = subst Rising (sym (is_open g s)) (rises_open l (member c.args.opened.now) c.args.g.0); in_range = subst (All (λ v. v < l.qubits)) (sym (is_open g s)) (open_within l (member c.args.opened.now) c.args.g.0) }
+    let l = g.C.Code.layout c.args.code.now in record { fits = long g s; unused_zero = clean g s; qubits_len_bound = few g s; rising = subst Rising (sym (is_open g s)) (rises_open l (member c.args.opened.now) c.args.g.0); in_range = subst (AllByRecursion (λ v. v < l.qubits)) (sym (is_open g s)) (open_within l (member c.args.opened.now) c.args.g.0) }
 
 pub returns-then-best-eq0 : goal.returns-then-best-eq0
 returns-then-best-eq0 g c =
