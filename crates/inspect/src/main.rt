@@ -1,6 +1,7 @@
 // Reads a graph file on standard input, checks it, and prints what it holds and which product code it makes.
 // With the argument `qubits` it also prints the qubits of each check and each generator of that code.
 #![tactic(auto)]
+
 use anyhow::anyhow;
 use codes::code::{Check, Code, Generator, Qubit};
 use graph_files::reading::read_graph;
