@@ -1,5 +1,6 @@
 // Functions for C or Rust to call: a code is told by its kind and bytes, a job by its patterns and its count of moves.
 #![tactic(auto)]
+
 mod calling;
 mod copies;
 mod kinds;

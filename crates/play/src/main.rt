@@ -1,5 +1,6 @@
 // Plays a script of calls on a job: reads it on standard input, makes the calls one by one, and prints each answer and what the job holds after it.
 #![tactic(auto)]
+
 mod hex;
 mod job;
 mod script;
