@@ -1,5 +1,6 @@
 // Trials of codes, products and syndromes on examples. Every expected value was worked out by hand.
 #![tactic(auto)]
+
 #[cfg(test)]
 mod product_trials;
 #[cfg(test)]

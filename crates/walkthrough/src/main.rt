@@ -1,9 +1,9 @@
 // Decodes one erasure move by move, on the product of the graph with the checks {0, 1} and {1, 2}, and prints each move and what it leaves.
 #![tactic(auto)]
+
 use anyhow::Context;
 use codes::code::{Check, Code, Generator, Qubit};
 use graph_files::reading::read_graph;
-use graphs::graph::Graph;
 use moves::job::Job;
 use patterns::items::contains;
 use products::product::Product;
