@@ -5,7 +5,7 @@ use Rattle.std.proofs.lemmas.Bool.{and_from, eq-eqb}
 use Rattle.refusals.specs.Questions.{first_no, where_accepted}
 use Rattle.refusals.specs.Outputs.{answered, written}
 use Rattle.refusals.proofs.Asking.{none_from_yes}
-use Rattle.patterns.specs.Patterns.{member, width, fitting, tidy, pattern, Well}
+use Rattle.patterns.specs.Patterns.{member, width, fitting, tidy, Well}
 use Rattle.patterns.proofs.Packed.{pattern_well}
 use Rattle.codes.specs.Layouts.{Layout, Sound}
 use Rattle.moves.specs.Jobs.{Model, refused_or, pattern_questions, opening_questions, opening}

@@ -17,10 +17,10 @@ pub wired_listed : (checks variables : List (List ℕ))
     → short most_neighbours checks ≡ true
     → short most_neighbours variables ≡ true
     → Wired (listed_graph checks variables)
-wired_listed checks variables by_check by-variable m n few_variables few_checks = record {
+wired_listed checks variables by_check by_variable m n few_variables few_checks = record {
   some_variables = (in_range (length variables) n).0;
   most_variables = (in_range (length variables) n).1;
   some_checks = (in_range (length checks) m).0;
   most_checks = (in_range (length checks) m).1;
-  paired = paired_listed most_neighbours checks variables by_check by-variable few_variables few_checks;
+  paired = paired_listed most_neighbours checks variables by_check by_variable few_variables few_checks;
 }

@@ -1,4 +1,4 @@
-use Rattle.std.proofs.Common.{◌+◌, ◌-◌, ◌*◌, length, refl, arith}
+use Rattle.std.proofs.Common.{◌+◌, ◌-◌, ◌*◌, length, arith}
 use Rattle.reports.proofs.Placed.{put_join, put_hex}
 use Rattle.reports.proofs.pieces.put_pattern.Goals as goal
 
