@@ -1,5 +1,5 @@
 -- The question for the verdict, which leaves the job as it is. Assumes nothing.
-use Rattle.std.proofs.Common.{◌≡◌, Some, None, Ok, Option, Result, sym, refl, subst}
+use Rattle.std.proofs.Common.{◌≡◌, Some, None, Ok, Option, Result, refl}
 use Rattle.refusals.specs.declared.Refusal.{Refusal}
 use Rattle.refusals.specs.Questions.{first_no}
 use Rattle.verdicts.specs.declared.Verdict.{Verdict}

@@ -1,12 +1,12 @@
 -- What is done with a job keeps the lengths of its patterns. Assumes nothing.
-use Rattle.std.proofs.Common.{◌≡◌, ℕ, true, false, ◌&&◌, ltb, ◌⊎◌, List, [], ◌∷◌, length, Some, None, Ok, Option, sym, refl, ap, ◌∙◌, subst, inl, inr}
+use Rattle.std.proofs.Common.{◌≡◌, ℕ, false, ◌&&◌, ltb, List, [], ◌∷◌, length, Some, None, Ok, Option, sym, refl, ap, ◌∙◌, subst, inl, inr}
 use Rattle.std.proofs.lemmas.Bool.{eqb-true}
 use Rattle.refusals.specs.declared.Refusal.{Refusal}
 use Rattle.refusals.specs.declared.Refusal.TheVariants.{NumberOutOfRange, NotInGenerator, NotAllOpen}
 use Rattle.refusals.specs.Questions.{first_no}
 use Rattle.refusals.proofs.Asking.{first_no_front}
 use Rattle.patterns.specs.Sets.{has}
-use Rattle.patterns.specs.Patterns.{member, width, Well, pattern}
+use Rattle.patterns.specs.Patterns.{member, width, Well}
 use Rattle.patterns.proofs.Packed.{length_pattern}
 use Rattle.codes.specs.Layouts.{Layout}
 use Rattle.scans.specs.Scans.{single, all_in, meeting}
@@ -14,7 +14,7 @@ use Rattle.flips.specs.Flips.{flip_set}
 use Rattle.moves.specs.Moves.{peel_by, flip_by}
 use Rattle.moves.specs.Jobs.{Model, counted, closed, refused_or, pattern_questions, opening, opening_questions, open_of}
 use Rattle.moves.proofs.Asked.{remaining_fits, opened_fits, correction_width}
-use Rattle.jobs.specs.Moving.{Move, peel, prune, flip}
+use Rattle.jobs.specs.Moving.{peel, prune, flip}
 use Rattle.jobs.specs.Runs.{run_moves, run_by}
 use Rattle.jobs.specs.Verdicts.{verdict}
 use Rattle.jobs.specs.Calls.{Call, move, run, ask, peeled, pruned, flipped, ran, told, answered_by, call}
@@ -25,7 +25,7 @@ use Rattle.foreign.specs.declared.numbers.Asked.{Asked}
 use Rattle.foreign.specs.declared.numbers.Numbers.{Numbers}
 use Rattle.foreign.specs.declared.calling.Task.{Task}
 use Rattle.foreign.specs.Numbering.{call_of}
-use Rattle.foreign.specs.Tasks.{done_by, done, Done}
+use Rattle.foreign.specs.Tasks.{done_by, Done}
 
 -- the patterns of two jobs have the same lengths
 pub record Kept (m n : Model) : Type 0 where

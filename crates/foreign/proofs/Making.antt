@@ -1,5 +1,5 @@
 -- What is done on a code that may be refused. Assumes nothing.
-use Rattle.std.proofs.Common.{◌≡◌, ℕ, ◌-◌, ◌*◌, ◌≤◌, Bool, true, false, cond, eqb, leb, ◌⊎◌, List, [], ◌∷◌, length, get_or, take, drop, Some, None, Option, unwrap_or, sym, refl, ap, ◌∙◌, subst, inl, inr, arith}
+use Rattle.std.proofs.Common.{◌≡◌, ℕ, ◌*◌, ◌≤◌, Bool, true, false, cond, eqb, leb, List, [], ◌∷◌, length, get_or, take, drop, Some, None, Option, unwrap_or, sym, refl, ap, ◌∙◌, subst, inl, inr, arith}
 use Rattle.std.proofs.lemmas.Bool.{le-leb, cond-true}
 use Rattle.refusals.specs.declared.Refusal.{Refusal}
 use Rattle.refusals.specs.declared.Refusal.TheVariants.{OutOfMemory}
@@ -14,7 +14,7 @@ use Rattle.moves.specs.Jobs.{Model}
 use Rattle.foreign.specs.declared.kinds.Kind.{Kind}
 use Rattle.foreign.specs.declared.numbers.Numbers.{Numbers}
 use Rattle.foreign.specs.declared.calling.Task.{Task}
-use Rattle.foreign.specs.Numbering.{only_refused, unmade, on_told}
+use Rattle.foreign.specs.Numbering.{only_refused, unmade}
 use Rattle.foreign.specs.Tasks.{done, Done}
 use Rattle.foreign.specs.Kinds.{kind_of}
 use Rattle.foreign.specs.Told.{unless_refused, shifts_code, cyclic_code, rows_code, split_code, written_told, told_by, told_code}

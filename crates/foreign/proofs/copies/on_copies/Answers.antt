@@ -1,4 +1,4 @@
-use Rattle.std.proofs.Common.{◌≡◌, length, sym, ap, ◌∙◌}
+use Rattle.std.proofs.Common.{length, sym, ap, ◌∙◌}
 use Rattle.moves.specs.Held.{model}
 use Rattle.foreign.specs.Numbering.{model_of}
 use Rattle.foreign.specs.Told.{told_code}

@@ -1,4 +1,4 @@
-use Rattle.std.proofs.Common.{◌≡◌, ◌≤◌, length, arith, ltb-false}
+use Rattle.std.proofs.Common.{◌≤◌, length, arith, ltb-false}
 use Rattle.std.proofs.lemmas.List.{take_rest}
 use Rattle.moves.specs.Held.{model}
 use Rattle.foreign.proofs.Making.{cyclic_split}

@@ -1,4 +1,3 @@
-use Rattle.std.proofs.Common.{◌≡◌, sym}
 use Rattle.written_codes.specs.Held.{code_of}
 use Rattle.written_codes.specs.Writing.{written_refusal, written_code}
 use Rattle.moves.specs.Jobs.{Model}

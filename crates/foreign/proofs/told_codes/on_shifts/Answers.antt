@@ -1,4 +1,4 @@
-use Rattle.std.proofs.Common.{◌≡◌, vec_items, sym, ◌∙◌}
+use Rattle.std.proofs.Common.{vec_items, ◌∙◌}
 use Rattle.moves.specs.Held.{model}
 use Rattle.foreign.proofs.Making.{shifts_made, shifts_refused}
 use Rattle.foreign.proofs.told_codes.on_shifts.Goals as goal

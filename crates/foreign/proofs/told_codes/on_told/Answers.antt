@@ -1,4 +1,4 @@
-use Rattle.std.proofs.Common.{◌≡◌, Some, None, ap, inl}
+use Rattle.std.proofs.Common.{Some, None, ap, inl}
 use Rattle.moves.specs.Held.{model}
 use Rattle.foreign.specs.declared.numbers.Numbers.{Numbers}
 use Rattle.foreign.proofs.Making.{done_told}
