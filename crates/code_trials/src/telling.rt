@@ -107,13 +107,13 @@ fn ends_tell_nothing<C: Code>(rt: &impl Abort, code: &C, rows: Rows) -> Result<(
     }
     for u in 0..count(code, rows) {
         let last = size(code, rows, u).ok_or("no size")?;
-        assert_eq!(rt; qubit(code, rows, u, last), None, "{}", u);
-        assert_eq!(rt; qubit(code, rows, u, u32::MAX), None, "{}", u);
+        assert_eq!(rt; qubit(code, rows, u, last), None, "{u}");
+        assert_eq!(rt; qubit(code, rows, u, u32::MAX), None, "{u}");
     }
     for v in 0..code.qubits() {
         let last = rows_of(code, rows, v).ok_or("no size")?;
-        assert_eq!(rt; row_of(code, rows, v, last), None, "{}", v);
-        assert_eq!(rt; row_of(code, rows, v, u32::MAX), None, "{}", v);
+        assert_eq!(rt; row_of(code, rows, v, last), None, "{v}");
+        assert_eq!(rt; row_of(code, rows, v, u32::MAX), None, "{v}");
     }
     Ok(())
 }
@@ -127,7 +127,7 @@ fn rows_tell<C: Code>(
     assert_eq!(rt; count(code, rows) as usize, expected.len());
     for (u, row) in (0..count(code, rows)).zip(expected.iter()) {
         let told = size(code, rows, u).ok_or("no size")?;
-        assert_eq!(rt; told as usize, row.len(), "{}", u);
+        assert_eq!(rt; told as usize, row.len(), "{u}");
         for v in 0..code.qubits() {
             let times = if row.contains(&v) { 1 } else { 0 };
             assert_eq!(rt; times_told(code, rows, u, v), times, "{u} and {v}");
@@ -135,12 +135,7 @@ fn rows_tell<C: Code>(
         }
     }
     for v in 0..code.qubits() {
-        assert_eq!(rt;
-            rows_of(code, rows, v),
-            Some(rows_with(expected, v)),
-            "{}",
-            v
-        );
+        assert_eq!(rt; rows_of(code, rows, v), Some(rows_with(expected, v)), "{v}");
     }
     ends_tell_nothing(rt, code, rows)
 }

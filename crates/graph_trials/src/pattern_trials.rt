@@ -11,10 +11,10 @@ fn items_stand_in_their_bits(rt: HostRuntime) {
     let inside = [0, 2, 5, 7, 8];
     let outside = [1, 3, 4, 6, 9, 15, 16, 17, u32::MAX];
     for k in inside {
-        assert!(rt; contains(b"\xA5\x01", k), "{}", k);
+        assert!(rt; contains(b"\xA5\x01", k), "{k}");
     }
     for k in outside {
-        assert!(rt; !contains(b"\xA5\x01", k), "{}", k);
+        assert!(rt; !contains(b"\xA5\x01", k), "{k}");
     }
 }
 
@@ -31,11 +31,11 @@ fn items_change_alone(rt: HostRuntime) {
     ];
     for (before, k, changed, without, has_place) in cases {
         let mut bits = *before;
-        assert_eq!(rt; toggle(&mut bits, k), has_place, "{}", k);
-        assert_eq!(rt; bits, *changed, "{}", k);
+        assert_eq!(rt; toggle(&mut bits, k), has_place, "{k}");
+        assert_eq!(rt; bits, *changed, "{k}");
         bits = *before;
-        assert_eq!(rt; clear(&mut bits, k), has_place, "{}", k);
-        assert_eq!(rt; bits, *without, "{}", k);
+        assert_eq!(rt; clear(&mut bits, k), has_place, "{k}");
+        assert_eq!(rt; bits, *without, "{k}");
     }
 }
 

@@ -40,8 +40,7 @@ fn each_cut_of_the_example_is_refused(rt: HostRuntime) {
         assert_eq!(rt;
             refused(rt.alloc(), &file[0..length]),
             Some(first),
-            "{}",
-            length
+            "{length}"
         );
     }
 }
