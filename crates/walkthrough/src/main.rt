@@ -7,7 +7,6 @@ use graph_files::reading::read_graph;
 use moves::job::Job;
 use patterns::items::contains;
 use products::product::Product;
-use refusals::Refusal;
 use std::io;
 
 // The graph's file: three variables, two checks, and the variables of each.
