@@ -17,9 +17,17 @@ use std::alloc::Global;
 
 const VERSION: u32 = 1;
 
-// What the head of a graph file tells, and the rows after it: the columns are the variables.
+// What the head of a graph file tells, and the bytes after it.
 #[derive(Clone, Copy)]
-pub struct Head<'a> {
+struct Head<'a> {
+    variables: u32,
+    checks: u32,
+    rows: &'a [u8],
+}
+
+// The rows of a graph file that was asked every question: the columns are the variables.
+#[derive(Clone, Copy)]
+pub struct AskedGraph<'a> {
     pub checks: u32,
     pub matrix: BitRows<'a>,
 }
@@ -34,9 +42,9 @@ fn word(high: u8, low: u8) -> u32
 fn read_head<'a>(file: &'a [u8]) -> Result<Head<'a>, Refusal>
     ensures { MatchResult result
         (λ h. (first_no (head_questions file.now) ≡ None)
-        × (h.matrix.columns ≡ variables_in file.now)
+        × (h.variables ≡ variables_in file.now)
         × (h.checks ≡ checks_in file.now)
-        × (h.matrix.bytes.now ≡ rows_in file.now))
+        × (h.rows.now ≡ rows_in file.now))
         (λ e. first_no (head_questions file.now) ≡ Some e) }
 {
     let [t, a, n, v1, v0, n1, n0, m1, m0, rows @ ..] = file else {
@@ -53,11 +61,11 @@ fn read_head<'a>(file: &'a [u8]) -> Result<Head<'a>, Refusal>
     if !in_range(variables) || !in_range(checks) {
         return Err(Refusal::CountOutOfRange);
     }
-    let matrix = BitRows {
-        columns: variables,
-        bytes: rows,
-    };
-    Ok(Head { checks, matrix })
+    Ok(Head {
+        variables,
+        checks,
+        rows,
+    })
 }
 
 // Asks the rows for their length, their unused bits, and the degrees of checks and variables.
@@ -91,17 +99,24 @@ fn build(heap: Global, checks: u32, matrix: BitRows<'_>) -> Result<Matrix, Refus
 }
 
 // Asks a file every question, and makes no graph of it.
-pub fn ask_graph<'a>(file: &'a [u8]) -> Result<Head<'a>, Refusal>
+pub fn ask_graph<'a>(file: &'a [u8]) -> Result<AskedGraph<'a>, Refusal>
     ensures { MatchResult result
-        (λ h. (graph_refusal file.now ≡ None)
-        × (h.matrix.columns ≡ variables_in file.now)
-        × (h.checks ≡ checks_in file.now)
-        × (h.matrix.bytes.now ≡ rows_in file.now))
+        (λ g. (graph_refusal file.now ≡ None)
+        × (g.matrix.columns ≡ variables_in file.now)
+        × (g.checks ≡ checks_in file.now)
+        × (g.matrix.bytes.now ≡ rows_in file.now))
         (λ e. graph_refusal file.now ≡ Some e) }
 {
     let head = read_head(file)?;
-    ask_rows(head.checks, head.matrix)?;
-    Ok(head)
+    let matrix = BitRows {
+        columns: head.variables,
+        bytes: head.rows,
+    };
+    ask_rows(head.checks, matrix)?;
+    Ok(AskedGraph {
+        checks: head.checks,
+        matrix,
+    })
 }
 
 // The graph of a file.
@@ -110,6 +125,6 @@ pub fn read_graph(heap: Global, file: &[u8]) -> Result<Matrix, Refusal>
         (λ g. (graph_refusal file.now ≡ None) × (graph_of g ≡ graph_in file.now) × (file_of (graph_of g) ≡ file.now))
         (λ e. e ≡ unwrap_or (graph_refusal file.now) OutOfMemory) }
 {
-    let head = ask_graph(file)?;
-    build(heap, head.checks, head.matrix)
+    let asked = ask_graph(file)?;
+    build(heap, asked.checks, asked.matrix)
 }

@@ -19,10 +19,10 @@ returns-in_err-ask_rows c =
     let f = c.args.file.now in
     let h = c.in_ok-head.head in
     let told = c.in_ok-head.ensures in
-    let rows = h.matrix.bytes.now in
+    let rows = h.rows.now in
     let p = err_from_is_err_and c.from_residual-in_err-ask_rows.result c.from_residual-in_err-ask_rows.ensures.1 in
-    let first = rows_refusal f rows h.checks h.matrix.columns told.0 told.1 told.2 told.3
-    ∙ answer_err (first_no (row_questions h.checks h.matrix.columns rows)) c.in_err-ask_rows.field-0.0 c.in_err-ask_rows.ensures in
+    let first = rows_refusal f rows h.checks h.variables told.0 told.1 told.2 told.3
+    ∙ answer_err (first_no (row_questions h.checks h.variables rows)) c.in_err-ask_rows.field-0.0 c.in_err-ask_rows.ensures in
     rw (p.1, p.2) first
 
 pub returns : goal.returns
@@ -30,9 +30,9 @@ returns c =
     let f = c.args.file.now in
     let h = c.in_ok-head.head in
     let told = c.in_ok-head.ensures in
-    let rows = h.matrix.bytes.now in (
-      rows_refusal f rows h.checks h.matrix.columns told.0 told.1 told.2 told.3
-          ∙ answer_ok (first_no (row_questions h.checks h.matrix.columns rows)) c.in_ok-ask_rows.ensures,
+    let rows = h.rows.now in (
+      rows_refusal f rows h.checks h.variables told.0 told.1 told.2 told.3
+          ∙ answer_ok (first_no (row_questions h.checks h.variables rows)) c.in_ok-ask_rows.ensures,
       told.1,
       told.2,
       told.3,

@@ -6,16 +6,16 @@ use Rattle.graph_files.proofs.Heads.{heads_asked, rows_asked, rows_tell, checks_
 use Rattle.graph_files.proofs.RoundTrips.{read_is_written}
 use Rattle.graph_files.proofs.reading.read_graph.Goals as goal
 
-pub returns-in_err-head : goal.returns-in_err-head
-returns-in_err-head c =
+pub returns-in_err-asked : goal.returns-in_err-asked
+returns-in_err-asked c =
     let p = err_from_is_err_and c.from_residual.result c.from_residual.ensures.1 in
-    rw (p.1, p.2) (sym (ap (λ r. unwrap_or r OutOfMemory) c.in_err-head.ensures))
+    rw (p.1, p.2) (sym (ap (λ r. unwrap_or r OutOfMemory) c.in_err-asked.ensures))
 
 pub build-requires : goal.build-requires
 build-requires c =
     let f = c.args.file.now in
-    let h = c.in_ok-head.head in
-    let told = c.in_ok-head.ensures in
+    let h = c.in_ok-asked.asked in
+    let told = c.in_ok-asked.ensures in
     let rows = h.matrix.bytes.now in
     let heads = heads_asked f told.0 in
     record {
@@ -27,8 +27,8 @@ build-requires c =
 pub returns : goal.returns
 returns c =
     let f = c.args.file.now in
-    let h = c.in_ok-head.head in
-    let told = c.in_ok-head.ensures in
+    let h = c.in_ok-asked.asked in
+    let told = c.in_ok-asked.ensures in
     let bytes : (i : ℕ) → get_or f i 0 < 256 = λ i. omega (arith, c.type_inv.file i) in
     let tells = rows_tell f h.matrix.bytes.now h.checks h.matrix.columns (heads_asked f told.0) told.1 told.2 told.3 in
     MatchResult-weaker c.build.result c.build.ensures
