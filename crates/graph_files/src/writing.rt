@@ -14,6 +14,7 @@ use refusals::Refusal;
 
 const HEAD: usize = 9;
 
+// The mark, the version and the two counts.
 fn write_head(variables: u32, checks: u32, out: &mut [u8])
     requires variables_le_most_nodes { variables ≤ most_nodes }
     requires checks_le_most_nodes { checks ≤ most_nodes }
@@ -37,11 +38,13 @@ fn write_row<G: Graph>(graph: &G, p: u32, row: &mut [u8])
     }
 }
 
+// The patterns of all checks, one after another.
 fn write_rows<G: Graph>(graph: &G, rows: &mut [u8])
     requires { length rows.old ≡ (G.tanner graph.now).checks * width (G.tanner graph.now).variables }
     ensures { rows.new ≡ rows_of (G.tanner graph.now) (G.tanner graph.now).checks }
 {
     let width = width(graph.variables());
+    // No loop over chunks_exact_mut: a proof knows nothing of the bytes that it wrote.
     for p in 0..graph.checks() {
         let from = width * p as usize;
         write_row(graph, p, &mut rows[from..from + width]);
