@@ -140,8 +140,8 @@ pub fn read_job<'a>(heap: Global, file: &'a [u8]) -> Result<JobFile<'a>, Fault>
 {
     let head = read_head(file)?;
     let asked = ask_graph(head.graph.bytes)?;
-    let checks = product_checks(asked.matrix.columns, asked.checks);
-    let qubits = product_qubits(asked.matrix.columns, asked.checks);
+    let checks = product_checks(asked.matrix.columns, asked.matrix.rows);
+    let qubits = product_qubits(asked.matrix.columns, asked.matrix.rows);
     let patterns = read_patterns(file, HEAD + head.graph.bytes.len(), checks, qubits)?;
     let graph = read_graph(heap, head.graph.bytes)?;
     Ok(JobFile {

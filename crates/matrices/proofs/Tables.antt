@@ -82,9 +82,3 @@ size_told m of_row u size e =
     (λ in'. let some : Some size ≡ Some (length (of_row u)) = e ∙ cond-true (ltb u m) (Some (length (of_row u))) None in' in (ltb-true u m in', cc some))
     (λ out. let none : Some size ≡ None = e ∙ cond-false (ltb u m) (Some (length (of_row u))) None out in let z : ◌≡◌ {A = ℕ} 0 1 = cc none in absurd (omega arith))
     (cases_Bool (ltb u m))
-
-pub size_short : (most : ℕ) (lists : List (List ℕ)) → short most lists ≡ true → (u size : ℕ) → Some size ≡ size_at (length lists) (listed lists) u → size ≤ most
-size_short most lists h u size e =
-    let told = size_told (length lists) (listed lists) u size e in
-    let few : length (listed lists u) ≤ most = leb-true (length (listed lists u)) most (all_below_at (length lists) (λ u. leb (length (listed lists u)) most) h u told.0) in
-    omega (arith, told.1)

@@ -49,7 +49,7 @@ returns-in_err-patterns c =
     let told = c.in_ok-head.ensures in
     let h = c.in_ok-asked.asked in
     let says = c.in_ok-asked.ensures in
-    let is = asked f bytes h.matrix.columns h.checks c.product_checks-checks.result c.product_qubits-qubits.result told.0 told.2.bytes says.0 says.1 says.2 c.product_checks-checks.ensures c.product_qubits-qubits.ensures in
+    let is = asked f bytes h.matrix.columns h.matrix.rows c.product_checks-checks.result c.product_qubits-qubits.result told.0 told.2.bytes says.0 says.1 says.2 c.product_checks-checks.ensures c.product_qubits-qubits.ensures in
     let p = err_from_is_err_and c.from_residual-in_err-patterns.result c.from_residual-in_err-patterns.ensures.1 in
     rw (p.1, p.2) (sym (ap (λ x. unwrap_or x (Graph OutOfMemory)) (is.fault ∙ c.in_err-patterns.ensures)))
 
@@ -60,7 +60,7 @@ returns-in_err-graph c =
     let told = c.in_ok-head.ensures in
     let h = c.in_ok-asked.asked in
     let says = c.in_ok-asked.ensures in
-    let is = asked f bytes h.matrix.columns h.checks c.product_checks-checks.result c.product_qubits-qubits.result told.0 told.2.bytes says.0 says.1 says.2 c.product_checks-checks.ensures c.product_qubits-qubits.ensures in
+    let is = asked f bytes h.matrix.columns h.matrix.rows c.product_checks-checks.result c.product_qubits-qubits.result told.0 told.2.bytes says.0 says.1 says.2 c.product_checks-checks.ensures c.product_qubits-qubits.ensures in
     let p = err_from_is_err_and c.from_residual-in_err-graph.result c.from_residual-in_err-graph.ensures.1 in
     let memory = c.in_err-graph.ensures ∙ ap (λ x. unwrap_or x OutOfMemory) says.0 in
     let accepted = is.fault ∙ ap of_job c.in_ok-patterns.ensures.0 in
@@ -73,7 +73,7 @@ returns c =
     let told = c.in_ok-head.ensures in
     let h = c.in_ok-asked.asked in
     let says = c.in_ok-asked.ensures in
-    let is = asked f bytes h.matrix.columns h.checks c.product_checks-checks.result c.product_qubits-qubits.result told.0 told.2.bytes says.0 says.1 says.2 c.product_checks-checks.ensures c.product_qubits-qubits.ensures in
+    let is = asked f bytes h.matrix.columns h.matrix.rows c.product_checks-checks.result c.product_qubits-qubits.result told.0 told.2.bytes says.0 says.1 says.2 c.product_checks-checks.ensures c.product_qubits-qubits.ensures in
     let cuts = c.in_ok-patterns.ensures in
     let after = ap₂ (λ at k. at + width k) is.size is.checks in
     record {
