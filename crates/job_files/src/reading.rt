@@ -104,15 +104,15 @@ fn read_patterns<'a>(file: &'a [u8], at: usize, sizes: Sizes) -> Result<Patterns
     Ok(Patterns { syndrome, erasure })
 }
 
-// The parts of a job file. The graph is made last, so that want of memory comes after every question.
+// The parts of a job file. A refusal that comes from below is the graph's. The graph is made last, so that want of memory comes after every question.
 pub fn read_job<'a>(heap: Global, file: &'a [u8]) -> Result<JobFile<'a>, Fault>
     ensures { MatchResult result (λ j. Told file.now j) (λ e. e ≡ unwrap_or (job_fault file.now) (Graph OutOfMemory)) }
 {
     let head = read_head(file).map_err(Fault::Job)?;
-    let asked = ask_graph(head.graph.bytes).map_err(Fault::Graph)?;
+    let asked = ask_graph(head.graph.bytes)?;
     let at = HEAD + head.graph.bytes.len();
     let patterns = read_patterns(file, at, Sizes::of_product(asked)).map_err(Fault::Job)?;
-    let graph = read_graph(heap, head.graph.bytes).map_err(Fault::Graph)?;
+    let graph = read_graph(heap, head.graph.bytes)?;
     Ok(JobFile {
         side: head.side,
         graph,

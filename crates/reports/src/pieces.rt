@@ -20,8 +20,9 @@ pub(crate) fn put_count<const N: usize>(count: u32, lines: &mut ArrayVec<u8, N>)
     ensures text { lines.new.items ≡ lines.old.items ++ (32 ∷ decimal count) }
     ensures bound { array_vec_len lines.new ≤ array_vec_len lines.old + 11 }
 {
+    let mut digits = Buffer::new();
     lines.push(b' ');
-    put(Buffer::new().format(count).as_bytes(), lines);
+    put(digits.format(count).as_bytes(), lines);
 }
 
 // Three counts, and the end of the line.

@@ -1,4 +1,4 @@
-use Rattle.std.proofs.Common.{ℕ, ◌+◌, ◌<◌, get_or, take, drop, unwrap_or, sym, ap, ◌∙◌, ap₂, arith}
+use Rattle.std.proofs.Common.{ℕ, ◌+◌, ◌<◌, get_or, take, drop, unwrap_or, sym, refl, ap, ◌∙◌, ap₂, arith}
 use Rattle.std.proofs.lemmas.Result.{err_from_is_err_and}
 use Rattle.refusals.specs.declared.Refusal.TheVariants.{OutOfMemory}
 use Rattle.patterns.specs.Patterns.{width}
@@ -21,19 +21,18 @@ pub returns-in_err-asked : goal.returns-in_err-asked
 returns-in_err-asked c =
     let f = c.args.file.now in
     let told = ok_wrapped _ _ _ c.read_head.result c.map_err.result c.in_ok-head.head c.read_head.ensures c.map_err.ensures.cases c.in_ok-head.was in
-    let d = c.in_err-asked.field-0.0 in
-    let e = err_wrapped _ _ _ c.ask_graph.result c.map_err-2.result d c.ask_graph.ensures c.map_err-2.ensures.cases c.in_err-asked.was in
+    let e = c.in_err-asked.field-0.0 in
     let p = err_from_is_err_and c.from_residual-in_err-asked.result c.from_residual-in_err-asked.ensures.1 in
-    rw (p.1, p.2) (answers_fault f d (Graph e.0) e.2 (fault_of_graph f told.0 e.0 (ap graph_refusal (sym told.2.bytes) ∙ e.1)))
+    rw (p.1, p.2) (answers_fault f (Graph e) (Graph e) refl (fault_of_graph f told.0 e (ap graph_refusal (sym told.2.bytes) ∙ c.in_err-asked.ensures)))
 
 pub of_product-requires-clause-variables_le_most_nodes : goal.of_product-requires-clause-variables_le_most_nodes
 of_product-requires-clause-variables_le_most_nodes c =
-    let says = ok_wrapped _ _ _ c.ask_graph.result c.map_err-2.result c.in_ok-asked.asked c.ask_graph.ensures c.map_err-2.ensures.cases c.in_ok-asked.was in
+    let says = c.in_ok-asked.ensures in
     omega (arith, says.1, (small_counts c.in_ok-head.head.graph.bytes.now says.0).0)
 
 pub of_product-requires-clause-checks_le_most_nodes : goal.of_product-requires-clause-checks_le_most_nodes
 of_product-requires-clause-checks_le_most_nodes c =
-    let says = ok_wrapped _ _ _ c.ask_graph.result c.map_err-2.result c.in_ok-asked.asked c.ask_graph.ensures c.map_err-2.ensures.cases c.in_ok-asked.was in
+    let says = c.in_ok-asked.ensures in
     omega (arith, says.2, (small_counts c.in_ok-head.head.graph.bytes.now says.0).1)
 
 pub read_patterns-requires : goal.read_patterns-requires
@@ -49,10 +48,10 @@ returns-in_err-patterns c =
     let head = c.in_ok-head.head in
     let h = c.in_ok-asked.asked in
     let told = ok_wrapped _ _ _ c.read_head.result c.map_err.result c.in_ok-head.head c.read_head.ensures c.map_err.ensures.cases c.in_ok-head.was in
-    let says = ok_wrapped _ _ _ c.ask_graph.result c.map_err-2.result c.in_ok-asked.asked c.ask_graph.ensures c.map_err-2.ensures.cases c.in_ok-asked.was in
+    let says = c.in_ok-asked.ensures in
     let is = asked f head.graph.bytes.now h.matrix.columns h.checks c.of_product.result.checks c.of_product.result.qubits told.0 told.2.bytes says.0 says.1 says.2 c.of_product.ensures.checks c.of_product.ensures.qubits in
     let d = c.in_err-patterns.field-0.0 in
-    let e = err_wrapped _ _ _ c.read_patterns.result c.map_err-3.result d c.read_patterns.ensures c.map_err-3.ensures.cases c.in_err-patterns.was in
+    let e = err_wrapped _ _ _ c.read_patterns.result c.map_err-2.result d c.read_patterns.ensures c.map_err-2.ensures.cases c.in_err-patterns.was in
     let p = err_from_is_err_and c.from_residual-in_err-patterns.result c.from_residual-in_err-patterns.ensures.1 in
     rw (p.1, p.2) (answers_fault f d (Job e.0) e.2 (is.fault ∙ ap of_job e.1))
 
@@ -62,15 +61,13 @@ returns-in_err-graph c =
     let head = c.in_ok-head.head in
     let h = c.in_ok-asked.asked in
     let told = ok_wrapped _ _ _ c.read_head.result c.map_err.result c.in_ok-head.head c.read_head.ensures c.map_err.ensures.cases c.in_ok-head.was in
-    let says = ok_wrapped _ _ _ c.ask_graph.result c.map_err-2.result c.in_ok-asked.asked c.ask_graph.ensures c.map_err-2.ensures.cases c.in_ok-asked.was in
+    let says = c.in_ok-asked.ensures in
     let is = asked f head.graph.bytes.now h.matrix.columns h.checks c.of_product.result.checks c.of_product.result.qubits told.0 told.2.bytes says.0 says.1 says.2 c.of_product.ensures.checks c.of_product.ensures.qubits in
-    let cuts = ok_wrapped _ _ _ c.read_patterns.result c.map_err-3.result c.in_ok-patterns.patterns c.read_patterns.ensures c.map_err-3.ensures.cases c.in_ok-patterns.was in
-    let d = c.in_err-graph.field-0.0 in
-    let e = err_wrapped _ _ _ c.read_graph.result c.map_err-4.result d c.read_graph.ensures c.map_err-4.ensures.cases c.in_err-graph.was in
+    let cuts = ok_wrapped _ _ _ c.read_patterns.result c.map_err-2.result c.in_ok-patterns.patterns c.read_patterns.ensures c.map_err-2.ensures.cases c.in_ok-patterns.was in
     let p = err_from_is_err_and c.from_residual-in_err-graph.result c.from_residual-in_err-graph.ensures.1 in
-    let memory = e.1 ∙ ap (λ x. unwrap_or x OutOfMemory) says.0 in
+    let memory = c.in_err-graph.ensures ∙ ap (λ x. unwrap_or x OutOfMemory) says.0 in
     let accepted = is.fault ∙ ap of_job cuts.0 in
-    rw (p.1, p.2) (e.2 ∙ ap Graph memory ∙ sym (ap (λ x. unwrap_or x (Graph OutOfMemory)) accepted))
+    rw (p.1, p.2) (ap Graph memory ∙ sym (ap (λ x. unwrap_or x (Graph OutOfMemory)) accepted))
 
 pub returns : goal.returns
 returns c =
@@ -78,10 +75,10 @@ returns c =
     let head = c.in_ok-head.head in
     let h = c.in_ok-asked.asked in
     let told = ok_wrapped _ _ _ c.read_head.result c.map_err.result c.in_ok-head.head c.read_head.ensures c.map_err.ensures.cases c.in_ok-head.was in
-    let says = ok_wrapped _ _ _ c.ask_graph.result c.map_err-2.result c.in_ok-asked.asked c.ask_graph.ensures c.map_err-2.ensures.cases c.in_ok-asked.was in
+    let says = c.in_ok-asked.ensures in
     let is = asked f head.graph.bytes.now h.matrix.columns h.checks c.of_product.result.checks c.of_product.result.qubits told.0 told.2.bytes says.0 says.1 says.2 c.of_product.ensures.checks c.of_product.ensures.qubits in
-    let cuts = ok_wrapped _ _ _ c.read_patterns.result c.map_err-3.result c.in_ok-patterns.patterns c.read_patterns.ensures c.map_err-3.ensures.cases c.in_ok-patterns.was in
-    let made = ok_wrapped _ _ _ c.read_graph.result c.map_err-4.result c.in_ok-graph.graph c.read_graph.ensures c.map_err-4.ensures.cases c.in_ok-graph.was in
+    let cuts = ok_wrapped _ _ _ c.read_patterns.result c.map_err-2.result c.in_ok-patterns.patterns c.read_patterns.ensures c.map_err-2.ensures.cases c.in_ok-patterns.was in
+    let made = c.in_ok-graph.ensures in
     let after = ap₂ (λ at k. at + width k) is.size is.checks in
     record {
       accepted = is.fault ∙ ap of_job cuts.0;
