@@ -1,8 +1,11 @@
 -- The weight of a pattern counts its set. Assumes nothing.
-use Rattle.std.proofs.Common.{◌≡◌, ℕ, zero, suc, ◌+◌, ◌-◌, ◌*◌, ◌/◌, ◌%◌, ◌^◌, ◌<◌, ◌≤◌, Bool, true, false, cond, ◌||◌, eqb, List, [], ◌∷◌, length, get_or, sym, refl, ap, ◌∙◌, ap₂, ⊎_elim, arith, shr-shr}
+use Rattle.std.proofs.Common.{◌≡◌, ℕ, zero, suc, ◌+◌, ◌-◌, ◌*◌, ◌/◌, ◌%◌, ◌^◌, ◌<◌, ◌≤◌, Bool, true, false, cond, ◌||◌, eqb, List, [], ◌∷◌, length, get_or, sym, refl, ap, ◌∙◌, ap₂, ⊎_elim, sum_by, arith, shr-shr}
+use mir.Val.{Fits}
+use mir.Syntax.{w8}
 use lib.Count.{ones, ones_step}
 use Rattle.std.proofs.lemmas.Nat.{shr_below}
 use Rattle.std.proofs.lemmas.List.{length-append}
+use Rattle.std.proofs.lemmas.List.Sums.{sum_by-cons}
 use Rattle.std.proofs.lemmas.Bool.{cases_Bool, cases_eq, eqb-true, eq-eqb, ne_eqb}
 use Rattle.patterns.specs.Sets.{Set, tally, members, has}
 use Rattle.patterns.specs.Patterns.{bit, member, byte_weight, weight, width, Well}
@@ -72,6 +75,12 @@ ones_tally (suc d) n h =
 pub byte_weight_is : (b : ℕ) → b < 256 → byte_weight b ≡ ones b
 unfolding byte_weight
 byte_weight_is b h = sym (ones_tally 8 b h)
+
+-- the weight of bytes is the sum of their ones
+pub weight_ones : (p : List ℕ) → ((i : ℕ) → Fits w8 (get_or p i 0)) → weight p ≡ sum_by ones p
+weight_ones [] h = refl
+weight_ones (b ∷ bs) h =
+    ap₂ ◌+◌ (byte_weight_is b (h 0).fits) (weight_ones bs (λ i. h (suc i))) ∙ sym (sum_by-cons ones b bs)
 
 pub weight_tally : (p : List ℕ) → weight p ≡ tally (length p * 8) (member p)
 unfolding byte_weight member

@@ -20,6 +20,7 @@ pub fn write_hex(bytes: &[u8], out: &mut [u8]) -> Result<usize, Refusal>
     if bytes.len() > out.len() / 2 {
         return Err(Refusal::OutputTooShort);
     }
+    // No `chunks_exact_mut`: a proof knows nothing of what a loop over it leaves in a slice.
     for (i, b) in bytes.iter().enumerate() {
         out[2 * i] = digit(*b / 16);
         out[2 * i + 1] = digit(*b % 16);

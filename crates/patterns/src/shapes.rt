@@ -6,7 +6,7 @@ ghost use Rattle.patterns.specs.Patterns.{width, fitting, tidy, MembersMakeThePa
 pub fn width(count: u32) -> usize
     ensures { result ≡ width count }
 {
-    (count as usize + 7) / 8
+    (count as usize).div_ceil(8)
 }
 
 // Whether there are just the bytes of `count` items.
@@ -21,6 +21,5 @@ pub fn fits(bits: &[u8], count: u32) -> bool
 pub fn unused_are_zero(bits: &[u8], count: u32) -> bool
     ensures { result ≡ tidy count bits.now }
 {
-    let byte = (count / 8) as usize;
-    byte >= bits.len() || bits[byte] >> (count % 8) == 0
+    bits.get((count / 8) as usize).is_none_or(|last| *last >> (count % 8) == 0)
 }

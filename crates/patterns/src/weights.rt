@@ -6,9 +6,5 @@ ghost use Rattle.patterns.specs.Patterns.{weight};
 pub fn weight(bits: &[u8]) -> u128
     ensures { result ≡ weight bits.now }
 {
-    let mut sum = 0;
-    for b in bits {
-        sum += u128::from(b.count_ones());
-    }
-    sum
+    bits.iter().map(|byte| u128::from(byte.count_ones())).sum()
 }

@@ -1,26 +1,19 @@
-use Rattle.std.proofs.Common.{◌-◌, ◌/◌, ◌%◌, length, get_or, set, sym, ap, ◌∙◌, arith}
+use Rattle.std.proofs.Common.{◌≡◌, ◌-◌, ◌/◌, ◌%◌, ◌^◌, length, get_or, set, sym, ap, ◌∙◌, ⊎_elim, rules}
 use lib.Bits.{bit_and}
-use Rattle.std.proofs.lemmas.Nat.{one_shl}
-use Rattle.std.proofs.lemmas.Bool.{lt-ltb, le-ltb, cond-false}
+use Rattle.std.proofs.lemmas.Bool.{cases_lt, cond-false}
 use Rattle.patterns.specs.Patterns.{member, toggled}
 use Rattle.patterns.proofs.Packed.{member_out}
 use Rattle.patterns.proofs.Toggled.{cleared_is}
 use Rattle.patterns.proofs.items.clear.Goals as goal
 
-pub returns-then-byte-bits : goal.returns-then-byte-bits
-returns-then-byte-bits c =
+pub returns-clause-after : goal.returns-clause-after
+returns-clause-after c =
     let bs = c.args.bits.now in
     let k = c.args.k in
-    record {
-      value = sym (le-ltb (k / 8) (length bs) (omega arith));
-      after = sym (cond-false (member bs k) (toggled bs k) bs (member_out bs k (omega arith)));
-    }
-
-pub returns : goal.returns
-returns c =
-    let bs = c.args.bits.now in
-    let k = c.args.k in
-    record {
-      value = sym (lt-ltb (k / 8) (length bs) (omega arith));
-      after = ap (λ p. set bs (k / 8) (bit_and (get_or bs (k / 8) 0) (255 - p))) (one_shl (k % 8) 8 (omega arith)) ∙ cleared_is bs k (omega arith);
-    }
+    ⊎_elim
+    (λ l.
+    let new = c.change.ensures.inside l in
+    let byte : new.0 ≡ bit_and (get_or bs (k / 8) 0) (255 - 2 ^ (k % 8)) = search rules in
+    new.2 ∙ ap (set bs (k / 8)) byte ∙ cleared_is bs k (c.change.ensures.byte l))
+    (λ l. c.change.ensures.past l ∙ sym (cond-false (member bs k) (toggled bs k) bs (member_out bs k l)))
+    (cases_lt (k / 8) (length bs))

@@ -1,23 +1,19 @@
-use Rattle.std.proofs.Common.{◌/◌, ◌%◌, length, get_or, set, sym, ap, arith}
+use Rattle.std.proofs.Common.{◌≡◌, ◌/◌, ◌%◌, ◌^◌, length, get_or, set, sym, ap, ◌∙◌, ⊎_elim, rules}
 use lib.Bits.{bit_xor}
-use Rattle.std.proofs.lemmas.Nat.{one_shl}
-use Rattle.std.proofs.lemmas.Bool.{lt-ltb, le-ltb}
+use Rattle.std.proofs.lemmas.Bool.{cases_lt}
 use Rattle.patterns.specs.Patterns.{toggled}
 use Rattle.patterns.proofs.Toggled.{toggled_past}
 use Rattle.patterns.proofs.items.toggle.Goals as goal
 
-pub returns-then-byte-bits : goal.returns-then-byte-bits
-returns-then-byte-bits c =
-    let bs = c.args.bits.now in
-    let k = c.args.k in
-    record { value = sym (le-ltb (k / 8) (length bs) (omega arith)); after = sym (toggled_past bs k (omega arith)) }
-
-pub returns : goal.returns
+pub returns-clause-after : goal.returns-clause-after
 unfolding toggled
-returns c =
+returns-clause-after c =
     let bs = c.args.bits.now in
     let k = c.args.k in
-    record {
-      value = sym (lt-ltb (k / 8) (length bs) (omega arith));
-      after = ap (λ p. set bs (k / 8) (bit_xor (get_or bs (k / 8) 0) p)) (one_shl (k % 8) 8 (omega arith));
-    }
+    ⊎_elim
+    (λ l.
+    let new = c.change.ensures.inside l in
+    let byte : new.0 ≡ bit_xor (get_or bs (k / 8) 0) (2 ^ (k % 8)) = search rules in
+    new.2 ∙ ap (set bs (k / 8)) byte)
+    (λ l. c.change.ensures.past l ∙ sym (toggled_past bs k l))
+    (cases_lt (k / 8) (length bs))
