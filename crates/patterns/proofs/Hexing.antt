@@ -49,3 +49,6 @@ rest_stays out old i h l e =
     ∙ ap (drop 2) e
     ∙ drop-drop 2 (2 * i) old
     ∙ sym (ap (λ n. drop n old) two)
+
+-- what the writer of digits rests on
+pub ruleset digits = (length_hexed, hexed_more, rest_stays, hexed_all)

@@ -13,6 +13,7 @@ fn digit(v: u8) -> u8
 }
 
 // Writes two capital digits for each byte at the front of `out`; answers how many bytes it wrote.
+#[tactic(auto, using(crate::proofs::Hexing::digits))]
 pub fn write_hex(bytes: &[u8], out: &mut [u8]) -> Result<usize, Refusal>
     ensures value { result ≡ answered (hexed bytes.now) out.old }
     ensures after { out.new ≡ written (hexed bytes.now) out.old }

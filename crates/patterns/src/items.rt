@@ -3,10 +3,12 @@ ghost use Rattle.std.specs.Prelude.{◌≡◌, ℕ, ◌/◌, ◌%◌, ◌^◌, �
 ghost use Rattle.patterns.specs.Patterns.{member, toggled, cleared};
 
 // Whether item k is in the pattern.
+#[tactic(auto, using(crate::proofs::Bits::and_bit, crate::proofs::Packed::member_out), unfolding(crate::specs::Patterns::member))]
 pub fn contains(bits: &[u8], k: u32) -> bool
     ensures { result ≡ member bits.now k }
 {
-    bits.get((k / 8) as usize).is_some_and(|byte| *byte & (1 << (k % 8)) != 0)
+    bits.get((k / 8) as usize)
+        .is_some_and(|byte| *byte & (1 << (k % 8)) != 0)
 }
 
 // Gives the byte of item k and the item's bit to the closure, and puts what it answers in the byte's place; answers whether the item has a place.
@@ -27,6 +29,7 @@ fn change<F: Fn(u8, u8) -> u8>(bits: &mut [u8], k: u32, changed: F) -> bool
 }
 
 // Puts item k in where it is out, and takes it out where it is in; answers whether it has a place.
+#[tactic(auto, using(crate::proofs::Toggled::toggled_past), unfolding(crate::specs::Patterns::toggled))]
 pub fn toggle(bits: &mut [u8], k: u32) -> bool
     ensures value { result ≡ nat_lt (k / 8) (length bits.old) }
     ensures after { bits.new ≡ toggled bits.old k }
@@ -35,6 +38,7 @@ pub fn toggle(bits: &mut [u8], k: u32) -> bool
 }
 
 // Takes item k out, if it is in; answers whether it has a place.
+#[tactic(auto, using(crate::proofs::Toggled::cleared_is, crate::proofs::Packed::member_out))]
 pub fn clear(bits: &mut [u8], k: u32) -> bool
     ensures value { result ≡ nat_lt (k / 8) (length bits.old) }
     ensures after { bits.new ≡ cleared bits.old k }

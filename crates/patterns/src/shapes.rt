@@ -10,6 +10,7 @@ pub fn width(count: u32) -> usize
 }
 
 // Whether there are just the bytes of `count` items.
+#[tactic(auto, using(crate::proofs::Packed::well_pattern))]
 pub fn fits(bits: &[u8], count: u32) -> bool
     ensures value { result ≡ fitting count bits.now }
     ensures members { MembersMakeThePattern }
@@ -18,8 +19,10 @@ pub fn fits(bits: &[u8], count: u32) -> bool
 }
 
 // Whether the bits that follow the last of `count` items, in its byte, are zero.
+#[tactic(auto, unfolding(crate::specs::Patterns::tidy))]
 pub fn unused_are_zero(bits: &[u8], count: u32) -> bool
     ensures { result ≡ tidy count bits.now }
 {
-    bits.get((count / 8) as usize).is_none_or(|last| *last >> (count % 8) == 0)
+    bits.get((count / 8) as usize)
+        .is_none_or(|last| *last >> (count % 8) == 0)
 }
