@@ -5,6 +5,7 @@ use lib.Bits.{bit_xor, bit_and, xor_lt, xor_zero_r, xor_add_and, and_comm, and_m
 use lib.Pow.{pow-lt}
 use Rattle.std.proofs.lemmas.List.{get_or-set_same, get_or-set_other, set_past, set-get_or}
 use Rattle.std.proofs.lemmas.Bool.{cases_eq, cases_Bool, eq-eqb, ne_eqb, eqb-true, eqb-false, or_right, lt-ltb, and_right, cond-true, cond-false}
+use Rattle.std.proofs.lemmas.Grind.{common_steps}
 use Rattle.patterns.specs.Sets.{◌⊕◌, has, Apart}
 use Rattle.patterns.specs.Patterns.{bit, member, toggled, toggled_all, cleared, value, eight, width, added, fitting}
 use Rattle.patterns.proofs.Sums.{plus_comm, plus_zero}
@@ -15,7 +16,7 @@ use Rattle.patterns.proofs.Added.{added_is, added_none, added_same, added_added}
 
 pub length_toggled : (p : List ℕ) (k : ℕ) → length (toggled p k) ≡ length p
 unfolding toggled
-length_toggled p k = length-set p (k / 8) (bit_xor (get_or p (k / 8) 0) (2 ^ (k % 8)))
+length_toggled p k = grind (arith, common_steps)
 
 pub length_toggled_all : (ks p : List ℕ) → length (toggled_all p ks) ≡ length p
 length_toggled_all [] p = refl
@@ -23,31 +24,16 @@ length_toggled_all (k ∷ ks) p = length_toggled_all ks (toggled p k) ∙ length
 
 pub toggled_past : (p : List ℕ) (k : ℕ) → length p ≤ k / 8 → toggled p k ≡ p
 unfolding toggled
-toggled_past p k h = set_past p (k / 8) (bit_xor (get_or p (k / 8) 0) (2 ^ (k % 8))) h
+toggled_past p k h = grind (arith, common_steps)
 
 -- items are equal where their bytes and their bits are
 same_place : (k j : ℕ) → j / 8 ≡ k / 8 → eqb (k % 8) (j % 8) ≡ eqb k j
-same_place k j same =
-    ⊎_elim
-    (λ e. e ∙ sym (eq-eqb k j (omega (arith, eqb-true (k % 8) (j % 8) e))))
-    (λ e. e ∙ sym (ne_eqb k j (λ z. eqb-false (k % 8) (j % 8) e (ap (λ n. n % 8) z))))
-    (cases_Bool (eqb (k % 8) (j % 8)))
+same_place k j same = grind (arith, common_steps)
 
 pub member_toggled : (p : List ℕ) (k j : ℕ) → k / 8 < length p → member (toggled p k) j ≡ (eqb k j ⊕ member p j)
 unfolding member toggled
 member_toggled p k j within =
-    let old : ℕ = get_or p (k / 8) 0 in
-    ⊎_elim
-    (λ same.
-    ap (λ n. bit (get_or (toggled p k) n 0) (j % 8)) same
-    ∙ ap (λ n. bit n (j % 8)) (get_or-set_same p (k / 8) (bit_xor old (2 ^ (k % 8))) 0 within)
-    ∙ bit_of_xor old (2 ^ (k % 8)) (j % 8)
-    ∙ plus_comm (bit old (j % 8)) (bit (2 ^ (k % 8)) (j % 8))
-    ∙ ap₂ ◌⊕◌ (bit_pow (k % 8) (j % 8) ∙ same_place k j same) (ap (λ n. bit (get_or p n 0) (j % 8)) (sym same)))
-    (λ apart.
-    ap (λ n. bit n (j % 8)) (get_or-set_other p (k / 8) (j / 8) (bit_xor old (2 ^ (k % 8))) 0 apart)
-    ∙ ap (λ b. b ⊕ bit (get_or p (j / 8) 0) (j % 8)) (sym (ne_eqb k j (λ z. apart (ap (λ n. n / 8) (sym z))))))
-    (cases_eq (j / 8) (k / 8))
+    grind (arith, common_steps, bit_of_xor (get_or p (k / 8) 0) (2 ^ (k % 8)) (j % 8), plus_comm (bit (get_or p (k / 8) 0) (j % 8)) (eqb k j), bit_pow (k % 8) (j % 8), same_place k j)
 
 -- a change of one item is the sum with the set of that item
 pub toggled_is : (c : ℕ) (p : List ℕ) (k : ℕ) → fitting c p ≡ true → k < c → toggled p k ≡ added c p (eqb k)

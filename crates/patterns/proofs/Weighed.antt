@@ -7,6 +7,7 @@ use Rattle.std.proofs.lemmas.Nat.{shr_below}
 use Rattle.std.proofs.lemmas.List.{length-append}
 use Rattle.std.proofs.lemmas.List.Sums.{sum_by-cons}
 use Rattle.std.proofs.lemmas.Bool.{cases_Bool, cases_eq, eqb-true, eq-eqb, ne_eqb}
+use Rattle.std.proofs.lemmas.Grind.{common_steps}
 use Rattle.patterns.specs.Sets.{Set, tally, members, has}
 use Rattle.patterns.specs.Patterns.{bit, member, byte_weight, weight, width, Well}
 use Rattle.patterns.proofs.Values.{digit_back}
@@ -14,38 +15,24 @@ use Rattle.patterns.proofs.Packed.{member_below}
 
 pub tally_same : (n : ℕ) (s t : Set) → ((k : ℕ) → k < n → s k ≡ t k) → tally n s ≡ tally n t
 tally_same zero s t h = refl
-tally_same (suc n) s t h = ap₂ (λ b r. cond b 1 0 + r) (h n (omega arith)) (tally_same n s t (λ k l. h k (omega arith)))
+tally_same (suc n) s t h = grind (arith, common_steps, h n, tally_same n s t (λ k l. h k (omega arith)))
 
 pub tally_none : (n : ℕ) (s : Set) → ((k : ℕ) → k < n → s k ≡ false) → tally n s ≡ 0
 tally_none zero s h = refl
-tally_none (suc n) s h = ap₂ (λ b r. cond b 1 0 + r) (h n (omega arith)) (tally_none n s (λ k l. h k (omega arith)))
+tally_none (suc n) s h = grind (arith, common_steps, h n, tally_none n s (λ k l. h k (omega arith)))
 
 -- one turn of a loop that counts
 pub tally_more : (n : ℕ) (s : Set) (b : Bool) → s n ≡ b → tally (n + 1) s ≡ cond b 1 0 + tally n s
-tally_more n s b e = let m : n + 1 ≡ suc n = omega arith in ap (λ k. tally k s) m ∙ ap (λ x. cond x 1 0 + tally n s) e
+tally_more n s b e = grind (arith, common_steps)
 
 pub length_members : (n : ℕ) (s : Set) → length (members n s) ≡ tally n s
 length_members zero s = refl
-length_members (suc n) s = omega (arith, length-append (members n s) (cond (s n) (n ∷ []) []), length_members n s, last (s n))
-  where
-    last : (b : Bool) → length (cond b (n ∷ []) []) ≡ cond b 1 0
-    last true = refl
-    last false = refl
+length_members (suc n) s = grind (arith, common_steps, length_members n s)
 
 -- the first a, and the rest
 pub tally_split : (a n : ℕ) (s : Set) → tally (n + a) s ≡ tally a s + tally n (λ k. s (k + a))
-tally_split a zero s = let z : 0 + a ≡ a = omega arith in ap (λ m. tally m s) z ∙ plus_nothing (tally a s)
-  where
-    plus_nothing : (x : ℕ) → x ≡ x + 0
-    plus_nothing x = omega arith
-tally_split a (suc n) s =
-    let more : suc n + a ≡ suc (n + a) = omega arith in
-    ap (λ m. tally m s) more
-    ∙ ap (λ r. cond (s (n + a)) 1 0 + r) (tally_split a n s)
-    ∙ swap (cond (s (n + a)) 1 0) (tally a s) (tally n (λ k. s (k + a)))
-  where
-    swap : (x y z : ℕ) → x + (y + z) ≡ y + (x + z)
-    swap x y z = omega arith
+tally_split a zero s = grind (arith, common_steps)
+tally_split a (suc n) s = let more : suc n + a ≡ suc (n + a) = omega arith in rw more (omega (arith, tally_split a n s))
 
 -- the ones of a number of d bits
 pub ones_tally : (d n : ℕ) → n < 2 ^ d → ones n ≡ tally d (bit n)
@@ -103,23 +90,14 @@ weight_tally (b ∷ bs) =
 -- the weight of a pattern of c items is the number of its members
 pub weight_well : (c : ℕ) (p : List ℕ) → Well c p → weight p ≡ tally c (member p)
 weight_well c p w =
-    let long = eqb-true (length p) (width c) w.long in
-    let room : length p * 8 ≡ (length p * 8 - c) + c = omega arith in
-    weight_tally p
-    ∙ ap (λ n. tally n (member p)) room
-    ∙ tally_split c (length p * 8 - c) (member p)
-    ∙ ap (λ x. tally c (member p) + x)
-    (tally_none (length p * 8 - c) (λ k. member p (k + c)) (λ k _. ⊎_elim (λ on. let z : k + c < c = member_below c p w (k + c) on in absurd (omega arith)) (λ off. off) (cases_Bool (member p (k + c)))))
-    ∙ plus_nothing (tally c (member p))
-  where
-    plus_nothing : (x : ℕ) → x + 0 ≡ x
-    plus_nothing x = omega arith
+    let room : length p * 8 ≡ (length p * 8 - c) + c = grind (arith, common_steps, w.long) in
+    let none = tally_none (length p * 8 - c) (λ k. member p (k + c)) (λ k _. grind (arith, common_steps, member_below c p w (k + c))) in
+    grind (arith, common_steps, weight_tally p, tally_split c (length p * 8 - c) (member p), none)
 
 -- ---- at most as many as a list has
 
 or_digits : (a b : Bool) → cond (a || b) 1 0 ≤ cond a 1 0 + cond b 1 0
-or_digits true b = omega arith
-or_digits false b = omega arith
+or_digits a b = grind (arith, common_steps)
 
 tally_or : (n : ℕ) (s t : Set) → tally n (λ k. s k || t k) ≤ tally n s + tally n t
 tally_or zero s t = omega arith
