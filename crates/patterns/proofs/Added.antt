@@ -34,19 +34,12 @@ member_added c p s w k h =
 pub well_added : (c : ℕ) (p : List ℕ) (s : Set) → Well c p → Well c (added c p s)
 unfolding tidy
 well_added c p s w =
-    let long = eqb-true (length p) (width c) w.long in
+    let few = value_small 8 (c % 8) (eight c s (c / 8)) (λ k a _. eight_past c s k a) in
+    let old : get_or p (c / 8) 0 < 2 ^ (c % 8) = below_power (get_or p (c / 8) 0) (c % 8) (eqb-true (get_or p (c / 8) 0 / 2 ^ (c % 8)) 0 w.clean) in
+    let small : get_or (added c p s) (c / 8) 0 < 2 ^ (c % 8) = grind (arith, common_steps, length_added c p s, getD_added c p s (c / 8), xor_lt (c % 8) (get_or p (c / 8) 0) (value 8 (eight c s (c / 8))) old few, old) in
     record {
-      long = eq-eqb (length (added c p s)) (width c) (length_added c p s ∙ long);
-      clean = ⊎_elim
-          (λ l.
-          let x : ℕ = value 8 (eight c s (c / 8)) in
-          let small : x < 2 ^ (c % 8) = value_small 8 (c % 8) (eight c s (c / 8)) (λ k a _. eight_past c s k a) in
-          let old : get_or p (c / 8) 0 < 2 ^ (c % 8) = below_power (get_or p (c / 8) 0) (c % 8) (eqb-true (get_or p (c / 8) 0 / 2 ^ (c % 8)) 0 w.clean) in
-          eq-eqb (get_or (added c p s) (c / 8) 0 / 2 ^ (c % 8)) 0
-          (ap (λ b. b / 2 ^ (c % 8)) (getD_added c p s (c / 8) l) ∙ div-eq_of_lt (xor_lt (c % 8) (get_or p (c / 8) 0) x old small)))
-          (λ l.
-          ap (λ b. eqb (b / 2 ^ (c % 8)) 0) (get_or_past (added c p s) (c / 8) 0 (omega (arith, length_added c p s)) ∙ sym (get_or_past p (c / 8) 0 l)) ∙ w.clean)
-          (cases_lt (c / 8) (length p));
+      long = grind (arith, common_steps, w.long, length_added c p s);
+      clean = eq-eqb (get_or (added c p s) (c / 8) 0 / 2 ^ (c % 8)) 0 (div-eq_of_lt small);
     }
 
 -- what the sum holds is in one of the two

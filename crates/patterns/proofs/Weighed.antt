@@ -7,6 +7,7 @@ use Rattle.std.proofs.lemmas.Nat.{shr_below}
 use Rattle.std.proofs.lemmas.List.{length-append}
 use Rattle.std.proofs.lemmas.List.Sums.{sum_by-cons}
 use Rattle.std.proofs.lemmas.Bool.{cases_Bool, cases_eq, eqb-true, eq-eqb, ne_eqb}
+use Rattle.std.proofs.lemmas.Nat.Bits.{bit_at-suc, bit_at_lowest}
 use Rattle.std.proofs.lemmas.Grind.{common_steps}
 use Rattle.patterns.specs.Sets.{Set, tally, members, has}
 use Rattle.patterns.specs.Patterns.{bit, member, byte_weight, weight, width, Well}
@@ -40,24 +41,10 @@ unfolding ones
 ones_tally zero n h = let z : n ≡ 0 = omega arith in ap ones z
 ones_tally (suc d) n h =
     let more : suc d ≡ d + 1 = omega arith in
-    let low : n / 2 ^ 0 % 2 ≡ n % 2 = omega arith in
-    let half : n / 2 < 2 ^ d = shr_below n d 1 (ap_lt more) in
-    ones_step n
-    ∙ sym
-    (ap (λ m. tally m (bit n)) more
-    ∙ tally_split 1 d (bit n)
-    ∙ ap₂ ◌+◌
-    (ap (λ x. cond (eqb x 1) 1 0 + 0) low ∙ ap (λ x. x + 0) (digit_back (n % 2) (omega arith)) ∙ plus_nothing (n % 2))
-    (tally_same d (λ k. bit n (k + 1)) (bit (n / 2)) (λ k _. ap (λ x. eqb (x % 2) 1) (ap (λ j. n / 2 ^ j) (turn k) ∙ sym (shr-shr n 1 k))) ∙ sym (ones_tally d (n / 2) half)))
-  where
-    plus_nothing : (x : ℕ) → x + 0 ≡ x
-    plus_nothing x = omega arith
-
-    turn : (k : ℕ) → k + 1 ≡ 1 + k
-    turn k = omega arith
-
-    ap_lt : suc d ≡ d + 1 → n < 2 ^ (d + 1)
-    ap_lt e = rw (← e) h
+    let half : n / 2 < 2 ^ d = grind (arith, common_steps) in
+    let rest = tally_same d (λ k. bit n (k + 1)) (bit (n / 2)) (λ k _. grind (arith, common_steps, bit_at-suc n k)) in
+    let apart : tally 1 (bit n) + tally d (λ k. bit n (k + 1)) ≡ n % 2 + ones (n / 2) = grind (arith, common_steps, bit_at_lowest n, digit_back (n % 2) (omega arith), rest, ones_tally d (n / 2) half) in
+    ones_step n ∙ sym (ap (λ m. tally m (bit n)) more ∙ tally_split 1 d (bit n) ∙ apart)
 
 pub byte_weight_is : (b : ℕ) → b < 256 → byte_weight b ≡ ones b
 unfolding byte_weight
@@ -74,18 +61,9 @@ unfolding byte_weight member
 weight_tally [] = refl
 weight_tally (b ∷ bs) =
     let more : suc (length bs) * 8 ≡ length bs * 8 + 8 = omega arith in
-    sym
-    (ap (λ n. tally n (member (b ∷ bs))) more
-    ∙ tally_split 8 (length bs * 8) (member (b ∷ bs))
-    ∙ ap₂ ◌+◌
-    (tally_same 8 (member (b ∷ bs)) (bit b) (λ k h.
-    let q : k / 8 ≡ 0 = omega arith in
-    let r : k % 8 ≡ k = omega arith in
-    ap₂ (λ x y. bit (get_or (b ∷ bs) x 0) y) q r))
-    (tally_same (length bs * 8) (λ k. member (b ∷ bs) (k + 8)) (member bs) (λ k h.
-    let q : (k + 8) / 8 ≡ suc (k / 8) = omega arith in
-    let r : (k + 8) % 8 ≡ k % 8 = omega arith in
-    ap₂ (λ x y. bit (get_or (b ∷ bs) x 0) y) q r) ∙ sym (weight_tally bs)))
+    let first = tally_same 8 (member (b ∷ bs)) (bit b) (λ k h. grind (arith, common_steps)) in
+    let rest = tally_same (length bs * 8) (λ k. member (b ∷ bs) (k + 8)) (member bs) (λ k h. grind (arith, common_steps)) in
+    sym (ap (λ n. tally n (member (b ∷ bs))) more ∙ tally_split 8 (length bs * 8) (member (b ∷ bs)) ∙ ap₂ ◌+◌ first (rest ∙ sym (weight_tally bs)))
 
 -- the weight of a pattern of c items is the number of its members
 pub weight_well : (c : ℕ) (p : List ℕ) → Well c p → weight p ≡ tally c (member p)
@@ -105,17 +83,7 @@ tally_or (suc n) s t = omega (arith, tally_or n s t, or_digits (s n) (t n))
 
 tally_one : (n x : ℕ) → (tally n (eqb x) ≤ 1) × (n ≤ x → tally n (eqb x) ≡ 0)
 tally_one zero x = (omega arith, λ _. refl)
-tally_one (suc n) x =
-    let known = tally_one n x in
-    ⊎_elim
-    (λ same.
-    let none : tally n (eqb x) ≡ 0 = known.1 (omega arith) in
-    let here : ◌≡◌ {A = ℕ} (cond (eqb x n) 1 0) 1 = ap (λ b. cond b 1 0) (eq-eqb x n same) in
-    (omega (arith, here), λ h. absurd (omega arith)))
-    (λ other.
-    let here : ◌≡◌ {A = ℕ} (cond (eqb x n) 1 0) 0 = ap (λ b. cond b 1 0) (ne_eqb x n other) in
-    (omega (arith, here, known.0), λ h. let none : tally n (eqb x) ≡ 0 = known.1 (omega arith) in omega (arith, here)))
-    (cases_eq x n)
+tally_one (suc n) x = let known = tally_one n x in (grind (arith, common_steps, known.0, known.1), λ h. grind (arith, common_steps, known.1))
 
 pub tally_has : (n : ℕ) (xs : List ℕ) → tally n (has xs) ≤ length xs
 tally_has n [] = let z : tally n (has []) ≡ 0 = tally_none n (has []) (λ _ _. refl) in omega arith
