@@ -1,13 +1,13 @@
 -- What a set added to a pattern leaves. Assumes nothing.
-use Rattle.std.proofs.Common.{◌≡◌, ℕ, ◌+◌, ◌*◌, ◌/◌, ◌%◌, ◌^◌, ◌<◌, true, false, ◌&&◌, eqb, ltb, List, length, get_or, replicate, sym, refl, ap, ◌∙◌, ⊎_elim, arith}
+use Rattle.std.proofs.Common.{◌≡◌, ℕ, ◌+◌, ◌*◌, ◌/◌, ◌%◌, ◌^◌, ◌<◌, true, false, ltb, List, length, get_or, replicate, sym, refl, ◌∙◌, arith}
 use native.Mathlib.Nat.{div-eq_of_lt}
 use lib.Bits.{bit_xor, xor_lt, xor_assoc, xor_zero_r, xor_zero_l}
 use Rattle.std.proofs.lemmas.List.FromFn.{length-map-range_with_len, get_or-map-range_with_len}
-use Rattle.std.proofs.lemmas.List.{get_or_past, ext_get_or, length-replicate, get_or-replicate}
-use Rattle.std.proofs.lemmas.Bool.{cases_lt, eq-eqb, eqb-true, lt-ltb, and_right, both_ways}
+use Rattle.std.proofs.lemmas.List.{ext_get_or, length-replicate, get_or-replicate}
+use Rattle.std.proofs.lemmas.Bool.{eq-eqb, eqb-true}
 use Rattle.std.proofs.lemmas.Grind.{common_steps}
 use Rattle.patterns.specs.Sets.{Set, ◌⊕◌}
-use Rattle.patterns.specs.Patterns.{bit, member, value, eight, width, pattern, added, tidy, Well}
+use Rattle.patterns.specs.Patterns.{member, value, eight, width, pattern, added, tidy, Well}
 use Rattle.patterns.proofs.Sums.{and_plus}
 use Rattle.patterns.proofs.Bits.{bit_of_xor, below_power}
 use Rattle.patterns.proofs.Values.{value_same, value_small, bit_value, value_xor, value_none}
@@ -54,11 +54,8 @@ pub added_added : (c : ℕ) (p : List ℕ) (s t : Set) → added c (added c p s)
 added_added c p s t =
     added_is c p (added c (added c p s) t) (λ k. s k ⊕ t k) (length_added c (added c p s) t ∙ length_added c p s)
     (λ i l.
-    getD_added c (added c p s) t i (omega (arith, length_added c p s))
-    ∙ ap (λ b. bit_xor b (value 8 (eight c t i))) (getD_added c p s i l)
-    ∙ xor_assoc (get_or p i 0) (value 8 (eight c s i)) (value 8 (eight c t i))
-    ∙ ap (bit_xor (get_or p i 0))
-    (sym (value_same 8 (eight c (λ k. s k ⊕ t k) i) (λ k. eight c s i k ⊕ eight c t i k) (λ k _. and_plus (ltb (i * 8 + k) c) (s (i * 8 + k)) (t (i * 8 + k))) ∙ value_xor (eight c s i) (eight c t i))))
+    let both = value_same 8 (eight c (λ k. s k ⊕ t k) i) (λ k. eight c s i k ⊕ eight c t i k) (λ k _. and_plus (ltb (i * 8 + k) c) (s (i * 8 + k)) (t (i * 8 + k))) ∙ value_xor (eight c s i) (eight c t i) in
+    grind (arith, common_steps, both, length_added c p s, getD_added c (added c p s) t i, getD_added c p s i, xor_assoc (get_or p i 0) (value 8 (eight c s i)) (value 8 (eight c t i))))
 
 pub eight_none : (c : ℕ) (s : Set) (i : ℕ) → ((k : ℕ) → s k ≡ false) → value 8 (eight c s i) ≡ 0
 eight_none c s i h = value_none (eight c s i) (λ k _. grind (arith, common_steps, h (i * 8 + k)))
@@ -69,8 +66,5 @@ added_none c p s h = added_is c p p s refl (λ i l. grind (arith, common_steps, 
 -- a set added to the empty pattern
 pub added_to_none : (c : ℕ) (s : Set) → added c (replicate (width c) 0) s ≡ pattern c s
 added_to_none c s =
-    let zeros : List ℕ = replicate (width c) 0 in
-    sym (added_is c zeros (pattern c s) s (length_pattern c s ∙ sym (length-replicate {A = ℕ} (width c) 0))
-    (λ i l.
-    let l' : i < width c = omega (arith, length-replicate {A = ℕ} (width c) 0) in
-    getD_pattern c s i l' ∙ sym (ap (λ b. bit_xor b (value 8 (eight c s i))) (get_or-replicate {A = ℕ} (width c) i 0 0 l') ∙ xor_zero_l (value 8 (eight c s i)))))
+    sym (added_is c (replicate (width c) 0) (pattern c s) s (length_pattern c s ∙ sym (length-replicate {A = ℕ} (width c) 0))
+    (λ i l. grind (arith, common_steps, length-replicate {A = ℕ} (width c) 0, getD_pattern c s i, get_or-replicate {A = ℕ} (width c) i 0 0, xor_zero_l (value 8 (eight c s i)))))

@@ -1,10 +1,8 @@
 -- A pattern that is filled item by item, in rising order. Assumes nothing.
-use Rattle.std.proofs.Common.{◌≡◌, ℕ, ◌+◌, ◌<◌, true, false, ◌&&◌, eqb, ltb, List, replicate, sym, refl, ap, ◌∙◌, ap₂, ⊎_elim, arith}
-use Rattle.std.proofs.lemmas.Bool.{cases_eq, cases_lt, eq-eqb, ne_eqb, lt-ltb, le-ltb}
+use Rattle.std.proofs.Common.{◌≡◌, ℕ, ◌+◌, ◌<◌, true, false, ◌&&◌, eqb, ltb, List, replicate, sym, refl, ap, ◌∙◌, arith}
 use Rattle.std.proofs.lemmas.Grind.{common_steps}
 use Rattle.patterns.specs.Sets.{Set, ◌⊕◌}
 use Rattle.patterns.specs.Patterns.{width, pattern, toggled, added}
-use Rattle.patterns.proofs.Sums.{plus_zero}
 use Rattle.patterns.proofs.Packed.{pattern_same, pattern_well}
 use Rattle.patterns.proofs.Added.{added_added, added_none, added_to_none}
 use Rattle.patterns.proofs.Toggled.{toggled_is}

@@ -1,6 +1,6 @@
 -- One turn of the loop that writes hexadecimal digits, and its end. Assumes nothing.
-use Rattle.std.proofs.Common.{◌≡◌, ℕ, ◌+◌, ◌*◌, ◌/◌, ◌%◌, ◌<◌, ◌≤◌, List, [], ◌∷◌, ◌++◌, length, get_or, take, drop, set, sym, refl, ap, ◌∙◌, arith}
-use Rattle.std.proofs.lemmas.List.{append-nil, append_assoc, at_drop_more, at_drop_all, take_more_set, take-append-drop, length-set, drop-set-lt, drop-drop}
+use Rattle.std.proofs.Common.{◌≡◌, ℕ, ◌+◌, ◌*◌, ◌/◌, ◌%◌, ◌<◌, ◌≤◌, List, [], ◌∷◌, ◌++◌, length, get_or, take, drop, set, refl, arith}
+use Rattle.std.proofs.lemmas.List.{at_drop_more, take-append-drop}
 use Rattle.std.proofs.lemmas.Grind.{common_steps}
 use Rattle.patterns.specs.Hex.{hex_digit, hexed}
 
@@ -19,9 +19,7 @@ pub hexed_more : (out bs : List ℕ) (i h l : ℕ)
     → l ≡ hex_digit (get_or bs i 0 % 16)
     → take (2 * i) out ++ hexed (drop i bs) ≡ hexed bs
     → take (2 * (i + 1)) (set (set out (2 * i) h) (2 * i + 1) l) ++ hexed (drop (i + 1) bs) ≡ hexed bs
-hexed_more out bs i h l within room p q e =
-    let s = at_drop_more hexed bs i 0 within in
-    ap (λ x. x ++ hexed (drop (i + 1) bs)) (two_more out i h l room) ∙ simp append_assoc (cc (s, p, q, e))
+hexed_more out bs i h l within room p q e = grind (arith, common_steps, at_drop_more hexed bs i 0 within, two_more out i h l room)
 
 -- what the loop leaves: the digits, and the rest as it was
 pub hexed_all : (out old bs : List ℕ) (i : ℕ)

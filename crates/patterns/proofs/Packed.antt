@@ -1,15 +1,14 @@
 -- A pattern holds its set, and a well-formed pattern is the pattern of its members. Assumes nothing.
-use Rattle.std.proofs.Common.{◌≡◌, ℕ, ◌+◌, ◌*◌, ◌/◌, ◌%◌, ◌^◌, ◌<◌, ◌≤◌, true, false, ◌&&◌, eqb, ltb, List, length, get_or, sym, ap, ◌∙◌, subst, ap₂, ⊎_elim, mod-eq_of_lt, arith, pow_pos}
+use Rattle.std.proofs.Common.{◌≡◌, ℕ, ◌+◌, ◌*◌, ◌/◌, ◌%◌, ◌^◌, ◌<◌, ◌≤◌, true, false, List, length, get_or, sym, ◌∙◌, arith, pow_pos}
 use native.Mathlib.Nat.{div-eq_of_lt}
-use Rattle.std.proofs.lemmas.Nat.{div-mul-add, mod-mul-add}
 use Rattle.std.proofs.lemmas.List.FromFn.{length-map-range_with_len, get_or-map-range_with_len}
-use Rattle.std.proofs.lemmas.List.{get_or_past, ext_get_or}
-use Rattle.std.proofs.lemmas.Bool.{cases_lt, lt-ltb, le-ltb, eqb-true, eq-eqb, both_ways}
+use Rattle.std.proofs.lemmas.List.{ext_get_or}
+use Rattle.std.proofs.lemmas.Bool.{eqb-true, eq-eqb}
 use Rattle.std.proofs.lemmas.Grind.{common_steps}
 use Rattle.patterns.specs.Sets.{Set}
 use Rattle.patterns.specs.Patterns.{bit, member, value, eight, width, pattern, tidy, Well, Bytes}
 use Rattle.patterns.proofs.Bits.{bit_high, bit_zero}
-use Rattle.patterns.proofs.Values.{value_lt, value_same, value_small, bit_value, value_bit}
+use Rattle.patterns.proofs.Values.{value_lt, value_same, value_small, bit_value, value_of_byte}
 
 pub length_pattern : (c : ℕ) (s : Set) → length (pattern c s) ≡ width c
 unfolding pattern
@@ -37,9 +36,7 @@ member_pattern c s k h = grind (arith, common_steps, getD_pattern c s (k / 8), b
 pub pattern_same : (c : ℕ) (s t : Set) → ((k : ℕ) → k < c → s k ≡ t k) → pattern c s ≡ pattern c t
 pattern_same c s t h =
     ext_get_or 0 (pattern c s) (pattern c t) (length_pattern c s ∙ sym (length_pattern c t))
-    (λ i l.
-    let l' : i < width c = omega (arith, length_pattern c s) in
-    getD_pattern c s i l' ∙ value_same 8 (eight c s i) (eight c t i) (λ k _. eight_same c s t i h k) ∙ sym (getD_pattern c t i l'))
+    (λ i l. grind (arith, common_steps, length_pattern c s, getD_pattern c s i, getD_pattern c t i, value_same 8 (eight c s i) (eight c t i) (λ k _. eight_same c s t i h k)))
 
 pub pattern_well : (c : ℕ) (s : Set) → Well c (pattern c s)
 unfolding tidy
@@ -65,19 +62,9 @@ well_pattern c p w small =
     let long = eqb-true (length p) (width c) w.long in
     ext_get_or 0 p (pattern c (member p)) (long ∙ sym (length_pattern c (member p)))
     (λ i l.
-    let b : ℕ = get_or p i 0 in
-    let top : i < width c = omega arith in
-    sym
-    (getD_pattern c (member p) i top
-    ∙ value_same 8 (eight c (member p) i) (bit b)
-    (λ k h.
-    let here : member p (i * 8 + k) ≡ bit b k = ap₂ (λ x y. bit (get_or p x 0) y) (div-mul-add i 8 k h) (mod-mul-add i 8 k h) in
-    ⊎_elim
-    (λ a. ap (λ x. x && member p (i * 8 + k)) (lt-ltb (i * 8 + k) c a) ∙ here)
-    (λ a. ap (λ x. x && member p (i * 8 + k)) (le-ltb (i * 8 + k) c a) ∙ sym (bit_high b (c % 8) k (last_byte c p w i (omega arith)) (omega arith)))
-    (cases_lt (i * 8 + k) c))
-    ∙ value_bit 8 b
-    ∙ mod-eq_of_lt (small i l)))
+    let byte = get_or p i 0 in
+    let same = value_same 8 (eight c (member p) i) (bit byte) (λ k h. grind (arith, common_steps, last_byte c p w i, bit_high byte (c % 8) k)) in
+    grind (arith, common_steps, getD_pattern c (member p) i, same, value_of_byte byte (small i l)))
 
 pub member_past : (c : ℕ) (p : List ℕ) → Well c p → (k : ℕ) → c ≤ k → member p k ≡ false
 unfolding member

@@ -1,19 +1,17 @@
 -- Changes of single items, and of each item of a list. Assumes nothing.
-use Rattle.std.proofs.Common.{◌≡◌, ℕ, ◌+◌, ◌-◌, ◌*◌, ◌/◌, ◌%◌, ◌^◌, ◌<◌, ◌≤◌, Bool, true, false, cond, ◌&&◌, eqb, ltb, List, [], ◌∷◌, length, get_or, set, sym, refl, ap, ◌∙◌, ap₂, ⊎_elim, mod-eq_of_lt, arith, length-set}
-use mathlib.Core.Bool.{and-true}
-use lib.Bits.{bit_xor, bit_and, xor_lt, xor_zero_r, xor_add_and, and_comm, and_mask, and_le_l}
+use Rattle.std.proofs.Common.{◌≡◌, ℕ, ◌-◌, ◌/◌, ◌%◌, ◌^◌, ◌<◌, ◌≤◌, true, cond, eqb, List, [], ◌∷◌, length, get_or, set, sym, refl, ap, ◌∙◌, ⊎_elim, arith}
+use lib.Bits.{bit_xor, bit_and, xor_lt, xor_zero_r, and_le_l}
 use lib.Pow.{pow-lt}
-use Rattle.std.proofs.lemmas.List.{get_or-set_same, get_or-set_other, set_past, set-get_or}
-use Rattle.std.proofs.lemmas.Bool.{cases_eq, cases_Bool, eq-eqb, ne_eqb, eqb-true, eqb-false, or_right, lt-ltb, and_right, cond-true, cond-false}
+use Rattle.std.proofs.lemmas.Bool.{cases_eq, eqb-true, or_right}
 use mir.Syntax.{w8}
 use Rattle.std.proofs.lemmas.Nat.Bits.{bit_at_not}
 use Rattle.std.proofs.lemmas.Grind.{common_steps}
 use Rattle.patterns.specs.Sets.{◌⊕◌, has, Apart}
 use Rattle.patterns.specs.Patterns.{bit, member, toggled, toggled_all, cleared, value, eight, width, added, fitting}
-use Rattle.patterns.proofs.Sums.{plus_comm, plus_zero}
+use Rattle.patterns.proofs.Sums.{plus_comm}
 use Rattle.patterns.proofs.Lists.{has_here, has_more}
 use Rattle.patterns.proofs.Bits.{bit_of_xor, bit_of_and, bit_pow}
-use Rattle.patterns.proofs.Values.{bit_value, value_same, value_none, value_one, same_byte}
+use Rattle.patterns.proofs.Values.{value_same, value_none, value_one, same_byte}
 use Rattle.patterns.proofs.Added.{added_is, added_none, added_same, added_added}
 
 pub length_toggled : (p : List ℕ) (k : ℕ) → length (toggled p k) ≡ length p
