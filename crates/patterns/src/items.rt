@@ -1,6 +1,6 @@
 // One item of a pattern. An item past the last byte is in no pattern, and a call that would change it changes nothing.
-ghost use Rattle.std.specs.Prelude.{◌≡◌, ℕ, ◌/◌, ◌%◌, ◌^◌, ◌<◌, ◌≤◌, length, nat_lt, slice_index, slice_set};
-ghost use Rattle.patterns.specs.Patterns.{member, toggled, cleared};
+ghost use Rattle.std.specs.Prelude.{◌≡◌, ℕ, ◌/◌, ◌%◌, ◌^◌, ◌<◌, ◌≤◌, length, slice_index, slice_set};
+ghost use Rattle.patterns.specs.Patterns.{member, placed, toggled, cleared};
 
 // Whether item k is in the pattern.
 #[tactic(auto, using(crate::proofs::Bits::and_bit, crate::proofs::Packed::member_out), unfolding(crate::specs::Patterns::member))]
@@ -14,7 +14,7 @@ pub fn contains(bits: &[u8], k: u32) -> bool
 // Gives the byte of item k and the item's bit to the closure, and puts what it answers in the byte's place; answers whether the item has a place.
 fn change<F: Fn(u8, u8) -> u8>(bits: &mut [u8], k: u32, changed: F) -> bool
     requires { F.IsAlwaysCallable changed }
-    ensures value { result ≡ nat_lt (k / 8) (length bits.old) }
+    ensures value { result ≡ placed bits.old k }
     ensures inside { k / 8 < length bits.old → (v : ℕ) × F.post changed (slice_index bits.old (k / 8)) (2 ^ (k % 8)) v × (bits.new ≡ slice_set bits.old (k / 8) v) }
     ensures byte { k / 8 < length bits.old → slice_index bits.old (k / 8) < 256 }
     ensures past { length bits.old ≤ k / 8 → bits.new ≡ bits.old }
@@ -31,7 +31,7 @@ fn change<F: Fn(u8, u8) -> u8>(bits: &mut [u8], k: u32, changed: F) -> bool
 // Puts item k in where it is out, and takes it out where it is in; answers whether it has a place.
 #[tactic(auto, using(crate::proofs::Toggled::toggled_past), unfolding(crate::specs::Patterns::toggled))]
 pub fn toggle(bits: &mut [u8], k: u32) -> bool
-    ensures value { result ≡ nat_lt (k / 8) (length bits.old) }
+    ensures value { result ≡ placed bits.old k }
     ensures after { bits.new ≡ toggled bits.old k }
 {
     change(bits, k, |byte, bit| byte ^ bit)
@@ -40,7 +40,7 @@ pub fn toggle(bits: &mut [u8], k: u32) -> bool
 // Takes item k out, if it is in; answers whether it has a place.
 #[tactic(auto, using(crate::proofs::Toggled::cleared_is, crate::proofs::Packed::member_out))]
 pub fn clear(bits: &mut [u8], k: u32) -> bool
-    ensures value { result ≡ nat_lt (k / 8) (length bits.old) }
+    ensures value { result ≡ placed bits.old k }
     ensures after { bits.new ≡ cleared bits.old k }
 {
     change(bits, k, |byte, bit| byte & !bit)

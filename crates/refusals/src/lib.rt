@@ -57,6 +57,7 @@ impl Refusal {
     }
 }
 
+// Both by hand: what a derive writes says nothing of the case that it makes, and no one impl is for both types.
 impl From<AllocError> for Refusal {
     ghost from_gives = { λ _ r. r ≡ OutOfMemory };
 
