@@ -40,7 +40,7 @@ fn put_short_lines<C: Code>(code: &C, report: Report<'_>, out: &mut [u8]) -> usi
     let at = put(&[b'c', b'o', b'd', b'e', b' ', code.kind_letter()], out, 0);
     let at = put_counts(code.qubits(), code.checks(), code.generators(), out, at);
     let at = put(b"verdict ", out, at);
-    let at = put(report.verdict.word(), out, at);
+    let at = put(report.verdict.word().as_bytes(), out, at);
     let at = put(b"\nmoves", out, at);
     put_counts(report.peels, report.prunes, report.flips, out, at)
 }
