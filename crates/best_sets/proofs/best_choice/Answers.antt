@@ -14,6 +14,6 @@ returns-then-rows-gt-MOST_ROWS c = record {
 
 pub returns : goal.returns
 returns c = record {
-  value = walk_within c.args.rows.now c.args.start c.weigh.result c.best_from.result (omega arith) c.weigh.ensures c.best_from.ensures;
+  value = walk_within c.args.rows.now c.args.start c.choice.result c.best_from.result (omega arith) c.choice.ensures c.best_from.ensures;
   best = best_is_unbeaten;
 }
