@@ -8,7 +8,7 @@ use Rattle.std.specs.declared.cmp.Ordering.{Ordering}
 use Rattle.std.specs.declared.cmp.Ordering.TheVariants.{Less, Equal, Greater}
 use Rattle.std.specs.declared.cmp.Reverse.{Reverse}
 use Rattle.std.proofs.lemmas.List.{take_rest}
-use Rattle.std.proofs.lemmas.Bool.{le-leb, lt-leb, cond-true, cond-false}
+use Rattle.std.proofs.lemmas.Bool.{le-leb, cond-true}
 use Rattle.best_sets.specs.declared.Begun.{Begun}
 use Rattle.best_sets.specs.declared.Choice.{Choice}
 use Rattle.best_sets.specs.Walk.{changed_by, weighed, wins, walked, walk_of}
@@ -134,7 +134,3 @@ pub walk_within : (rows : List (List ℕ)) (start : List ℕ) (empty r : Choice)
 walk_within rows start empty r h e w =
     ap Some (w ∙ ap (walked rows start 0 0) e)
     ∙ sym (cond-true (leb (length rows) 12) (Some (walked rows start 0 0 (record { weight = weighed start; size = 0; picks = 0 }))) None (le-leb (length rows) 12 h))
-
--- and none among more
-pub walk_beyond : (rows : List (List ℕ)) (start : List ℕ) → 12 < length rows → None ≡ walk_of rows start
-walk_beyond rows start h = sym (cond-false (leb (length rows) 12) (Some (walked rows start 0 0 (record { weight = weighed start; size = 0; picks = 0 }))) None (lt-leb (length rows) 12 h))

@@ -1,8 +1,9 @@
 -- The walk over the sets of the rows finds the best set of the numbers that the rows stand for. Assumes nothing.
-use Rattle.std.proofs.Common.{◌≡◌, ℕ, zero, suc, ◌+◌, ◌*◌, ◌<◌, ◌≤◌, Bool, true, false, cond, ◌&&◌, ◌||◌, eqb, ltb, List, [], ◌∷◌, ◌++◌, map, length, fold, sym, refl, ap, ◌∙◌, ap₂, ⊎_elim, arith}
+use Rattle.std.proofs.Common.{◌≡◌, ℕ, zero, suc, ◌+◌, ◌*◌, ◌<◌, ◌≤◌, Bool, true, false, cond, ◌&&◌, ◌||◌, eqb, ltb, List, [], ◌∷◌, ◌++◌, map, length, sym, refl, ap, ◌∙◌, ap₂, ⊎_elim, arith}
 use mathlib.Core.List.{map-map, map-append}
 use Rattle.std.specs.List.{All, best_of}
 use Rattle.std.proofs.lemmas.List.Elements.{All-nil, All-cons, All-head, All-tail, All-map, All-append, All-weaker}
+use Rattle.std.proofs.lemmas.List.Sums.{fold-append}
 use Rattle.std.proofs.lemmas.Bool.{lt-ltb, le-ltb, eq-eqb, ne_eqb, cases_lt, cases_eq, both_ways}
 use Rattle.best_sets.specs.declared.Choice.{Choice}
 use Rattle.best_sets.specs.Walk.{changed_by, weighed, wins, walked}
@@ -48,11 +49,6 @@ leaf rows l z p b = record { weight = weighed (lefts rows l b); size = z + trues
 
 -- ---- the walk as a fold over all ways
 
--- a fold over two lists in a row
-folded_append : {X Y : Type 0} (f : Y → X → Y) (a : Y) (xs ys : List X) → fold f a (xs ++ ys) ≡ fold f (fold f a xs) ys
-folded_append f a [] ys = refl
-folded_append f a (x ∷ xs) ys = folded_append f (f a x) xs ys
-
 -- each way speaks of all places
 vectors_length : (k : ℕ) → All (λ b. length b ≡ k) (vectors k)
 unfolding vectors
@@ -88,7 +84,7 @@ walked_leaves (r ∷ rows) l z p best =
     let two : map (leaf rows l z (2 * p)) V ≡ map f (map (λ b. false ∷ b) V) = sym (map-map f (λ b. false ∷ b) V) in
     walked_leaves rows l z (2 * p) (walked rows (changed_by l r) (z + 1) (2 * p + 1) best)
     ∙ ap₂ (λ x ys. best_of wins x ys) (walked_leaves rows (changed_by l r) (z + 1) (2 * p + 1) best ∙ ap (best_of wins best) one) two
-    ∙ sym (folded_append pick-one best (map f (map (λ b. true ∷ b) V)) (map f (map (λ b. false ∷ b) V)))
+    ∙ sym (fold-append pick-one best (map f (map (λ b. true ∷ b) V)) (map f (map (λ b. false ∷ b) V)))
     ∙ ap (best_of wins best) (sym (map-append f (map (λ b. true ∷ b) V) (map (λ b. false ∷ b) V)))
 
 -- the sets of a list are what the ways pick of it

@@ -12,7 +12,7 @@ use std::{array, cmp};
 // A set of at most so many rows has a number of twelve bits.
 const MOST_ROWS: usize = 12;
 
-// As many bits as there are checks near the qubits of a set.
+// A bit for each check near the qubits.
 pub type Words = [u64; 3];
 
 // A set of up to twelve rows: the weight that it leaves, how many rows it has, and its number.
