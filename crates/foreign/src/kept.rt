@@ -35,7 +35,6 @@ impl Kept<'_> {
             task.entry
             (result, model_of self.exit.0.now self.exit.1.0.now self.exit.1.1.0.now self.exit.1.1.1.0.now) }
     {
-        let code = ToldCode::of(heap, kind, code)?;
         let Kept {
             remaining,
             opened,
@@ -45,6 +44,7 @@ impl Kept<'_> {
         let mut left = Vec::from_slice(heap, remaining)?;
         let mut open = Vec::from_slice(heap, opened)?;
         let mut changed = Vec::from_slice(heap, correction)?;
+        let code = ToldCode::of(heap, kind, code)?;
         let mut job = Job {
             remaining: left.as_mut_slice(),
             opened: open.as_mut_slice(),
