@@ -8,7 +8,8 @@ ghost use Rattle.jobs.specs.Closings.{as_move, Passed, NextClosing, NothingClose
 ghost use Rattle.jobs.specs.Progress.{with_move, none_yet, Came};
 
 use crate::counting::Counts;
-use crate::lowest::{lowest_check, lowest_dangling, lowest_qubit, lowest_wholly_open};
+use crate::lowest::{lowest_check, lowest_qubit};
+use crate::position::Position;
 use codes::code::{Check, Code, Generator, Qubit};
 use moves::job::Job;
 
@@ -64,16 +65,18 @@ impl Counts {
     }
 }
 
-// The next step: a peel of the lowest dangling check; else a prune of the lowest generator that is all open, at its lowest qubit.
-fn next_closing<C: Code>(code: &C, job: &Job, from: Cursors) -> Option<Closing>
-    requires { Passed (C.layout code.now) (model job.now) from }
-    ensures { NextClosing (C.layout code.now) (model job.now) result }
-{
-    if let Some((u, v)) = lowest_dangling(code, job, from.check) {
-        return Some(Closing::Peel(u, v));
+impl<'a, 'b, C: Code> Position<'a, 'b, C> {
+    // The next step: a peel of the lowest dangling check; else a prune of the lowest generator that is all open, at its lowest qubit.
+    fn next_closing(&self, from: Cursors) -> Option<Closing>
+        requires { Passed (C.layout self.now.code.now) (model self.now.job.now) from }
+        ensures { NextClosing (C.layout self.now.code.now) (model self.now.job.now) result }
+    {
+        if let Some((u, v)) = self.lowest_dangling(from.check) {
+            return Some(Closing::Peel(u, v));
+        }
+        let g = self.lowest_wholly_open(from.generator)?;
+        Some(Closing::Prune(g, lowest_qubit(self.code, g)))
     }
-    let g = lowest_wholly_open(code, job, from.generator)?;
-    Some(Closing::Prune(g, lowest_qubit(code, g)))
 }
 
 // Makes the step, by the call that a single move is made with; a refused one leaves the job as it was.
@@ -106,7 +109,7 @@ pub(crate) fn close_all<C: Code>(code: &C, job: &mut Job) -> Counts
         generator: 0,
     };
     loop {
-        let Some(step) = next_closing(code, job, from) else {
+        let Some(step) = (Position { code, job }).next_closing(from) else {
             return counts;
         };
         make(code, job, step);

@@ -9,7 +9,7 @@ ghost use Rattle.jobs.specs.Closings.{NothingCloses};
 ghost use Rattle.jobs.specs.Progress.{together, Came};
 
 use crate::counting::Counts;
-use crate::lowest::lowest_lowerable;
+use crate::position::Position;
 use codes::code::Code;
 use moves::job::Job;
 
@@ -22,7 +22,7 @@ pub(crate) fn flip_all<C: Code>(code: &C, job: &mut Job, counts: Counts) -> Coun
     ensures ended { next (C.layout code.now) (model job.new) ≡ None }
 {
     let mut flips = counts.flips;
-    while let Some(g) = lowest_lowerable(code, job, 0) {
+    while let Some(g) = (Position { code, job }).lowest_lowerable() {
         let _ = job.flip(code, g);
         flips += 1;
     }

@@ -13,7 +13,7 @@ use crate::answers::Run;
 use crate::closing::close_all;
 use crate::counting::Counts;
 use crate::flipping::flip_all;
-use crate::verdict::standing;
+use crate::position::Position;
 use codes::code::Code;
 use moves::job::Job;
 use refusals::Refusal;
@@ -43,7 +43,7 @@ pub fn run<C: Code>(code: &C, job: &mut Job) -> Result<Run, Refusal>
         prunes,
         flips,
     } = make_all(code, job);
-    let verdict = standing(code, job);
+    let verdict = Position { code, job }.verdict();
     Ok(Run {
         peels,
         prunes,

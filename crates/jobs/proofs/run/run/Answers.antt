@@ -22,7 +22,7 @@ returns g c =
     let sound = g.met.C.Code.sound c.args.code.now in
     let made = c.make_all-peels in
     record {
-      value = run_accepted l (model c.args.job.now) c.in_ok-ask_patterns.ensures made.result (model made.new.job) c.standing-verdict.result made.ensures.value made.ensures.after c.standing-verdict.ensures;
+      value = run_accepted l (model c.args.job.now) c.in_ok-ask_patterns.ensures made.result (model made.new.job) c.verdict-verdict.result made.ensures.value made.ensures.after c.verdict-verdict.ensures;
       ends = run_ends l sound;
       agree = two_jobs l sound;
     }

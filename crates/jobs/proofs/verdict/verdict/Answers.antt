@@ -27,6 +27,6 @@ returns g c =
     let m = model c.args.job.now in
     let asked = first_no (pattern_questions l m) in
     record {
-      value = ap Ok c.standing.ensures ∙ ap (λ o. o.0) (accepted_at asked m (Ok (verdict l m), m) (answer_ok asked c.in_ok-ask_patterns.ensures));
+      value = ap Ok c.verdict.ensures ∙ ap (λ o. o.0) (accepted_at asked m (Ok (verdict l m), m) (answer_ok asked c.in_ok-ask_patterns.ensures));
       stalled = stalled_exactly l (g.met.C.Code.sound c.args.code.now);
     }
