@@ -14,27 +14,22 @@ pub struct Lists {
     pub nodes: Vec<Vec<u32>>,
 }
 
-// Those of the first `columns` numbers that are joined to `a`, in rising order.
-fn gather<M: Incidence>(heap: Global, m: &M, a: u32, columns: u32) -> Result<Vec<u32>, Refusal>
-    ensures { MatchResult result (λ v. v.items ≡ members columns (M.joined m.now a)) (λ e. e ≡ OutOfMemory) }
+// The columns that are joined to `a`, in rising order.
+fn gather<M: Incidence>(heap: Global, m: &M, a: u32) -> Result<Vec<u32>, Refusal>
+    ensures { MatchResult result (λ v. v.items ≡ members (M.breadth m.now) (M.joined m.now a)) (λ e. e ≡ OutOfMemory) }
 {
-    let mut list = Vec::new(heap);
-    for b in 0..columns {
-        if m.joins(a, b) {
-            list.push(b)?;
-        }
-    }
+    let list = (0..m.columns()).filter(|b| m.joins(a, *b)).collect(heap)?;
     Ok(list)
 }
 
 impl Lists {
-    // The lists of the first `rows` numbers over the first `columns`, in rising order.
-    pub fn of<M: Incidence>(heap: Global, m: &M, rows: u32, columns: u32) -> Result<Lists, Refusal>
-        ensures { MatchResult result (λ l. lists l.nodes ≡ tabled rows columns (M.joined m.now)) (λ e. e ≡ OutOfMemory) }
+    // The lists of the rows, in rising order.
+    pub fn of<M: Incidence>(heap: Global, m: &M) -> Result<Lists, Refusal>
+        ensures { MatchResult result (λ l. lists l.nodes ≡ tabled (M.height m.now) (M.breadth m.now) (M.joined m.now)) (λ e. e ≡ OutOfMemory) }
     {
         let mut nodes = Vec::new(heap);
-        for a in 0..rows {
-            nodes.push(gather(heap, m, a, columns)?)?;
+        for a in 0..m.rows() {
+            nodes.push(gather(heap, m, a)?)?;
         }
         Ok(Lists { nodes })
     }

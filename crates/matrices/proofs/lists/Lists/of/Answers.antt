@@ -13,4 +13,4 @@ loop-a-preserved g c =
     ap (map vec_items) (pushed (list ∷ []) refl c.in_ok-push.was c.push.ensures.items)
     ∙ map_push vec_items nodes list
     ∙ ap₂ (λ xs x. xs ++ x ∷ []) c.loop-a.invariant c.in_ok-gather.ensures
-    ∙ sym (map-range_with_len_more (λ u. members c.args.columns (s u)) 0 c.loop-a.a c.loop-a.a (omega arith))
+    ∙ sym (map-range_with_len_more (λ u. members (g.M.Incidence.breadth c.args.m.now) (s u)) 0 c.loop-a.a c.loop-a.a (omega arith))
