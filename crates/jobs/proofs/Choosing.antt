@@ -2,13 +2,14 @@
 use Rattle.std.proofs.Common.{◌≡◌, ℕ, zero, suc, ◌+◌, ◌-◌, ◌<◌, ◌≤◌, min, Bool, true, false, List, [], ◌∷◌, length, get_or, is_some, Some, None, Option, sym, refl, ap, ◌∙◌, subst, ⊎_elim, add-one, arith}
 use Rattle.std.proofs.iter.Yields.{nat_range_steps}
 use Rattle.std.proofs.iter.runs.Sources.{range_runs}
+use Rattle.std.proofs.lemmas.Iterator.Adapters.{option_map_id}
 use Rattle.std.proofs.lemmas.List.FromFn.{length-range_with_len, get_or-range_with_len}
 use Rattle.std.specs.Bool.{⊤, MatchBool, IsTrue}
 use Rattle.std.specs.Fn.{Called, CalledAt}
 use Rattle.std.specs.Iterator.{FindsItem, ChecksAny}
 use Rattle.std.specs.Iterator.Runs.{Run, SomeRun, ItemsCountUp, CallKeepsClosure, AllItemsGive, IsFirstToGive}
-use Rattle.std.specs.List.{range_with_len, HoldsAt, AllWithin}
-use Rattle.std.specs.Option.{MatchOption, IfSome, IsSomeAnd}
+use Rattle.std.specs.List.{range_with_len, fold, reduce, HoldsAt, AllWithin}
+use Rattle.std.specs.Option.{MatchOption, IfSome, IsSomeAnd, unwrap_or}
 use Rattle.std.specs.declared.ops.Range.{Range}
 use denote.Param.Members.{Mut}
 use denote.Ref.{Bor}
@@ -106,11 +107,7 @@ module _ (s : Set) where
       steady a o q k = (calls a.0 o q k).0
 
       at_place : (j : ℕ) → j < p.len → p.at j ≡ Some (at.start + j)
-      at_place j l = only (p.at j) (up.3 j l)
-        where
-          only : (o : Option ℕ) {x : ℕ} → option_map (λ y. y) o ≡ Some x → o ≡ Some x
-          only None e = e
-          only (Some y) e = e
+      at_place j l = sym (option_map_id (p.at j)) ∙ up.3 j l
 
       -- the answer to the number j, where the item at its place was answered so
       answered : (o : Option B) (j : ℕ) → at.start ≤ j → j - at.start < p.len → MatchOption (p.at (j - at.start)) ⊤ (λ x. Called g f (x, tt) o f) → Called g f (j, tt) o f
@@ -142,8 +139,12 @@ least_joined : (x y : ℕ) (ys : List ℕ) → least (x ∷ y ∷ ys) ≡ least 
 least_joined x y [] = refl
 least_joined x y (z ∷ zs) = omega arith
 
-pub least_lower : (low v : ℕ) (rest : List ℕ) → v < low → least (low ∷ v ∷ rest) ≡ least (v ∷ rest)
-least_lower low v rest h = let lower : min low v ≡ v = omega arith in least_joined low v rest ∙ ap (λ x. least (x ∷ rest)) lower
+-- a fold by `min` gives the least
+pub least_folded : (x : ℕ) (xs : List ℕ) → fold min x xs ≡ least (x ∷ xs)
+least_folded x [] = refl
+least_folded x (y ∷ ys) = least_folded (min x y) ys ∙ sym (least_joined x y ys)
 
-pub least_kept : (low v : ℕ) (rest : List ℕ) → low ≤ v → least (low ∷ v ∷ rest) ≡ least (low ∷ rest)
-least_kept low v rest h = let kept : min low v ≡ low = omega arith in least_joined low v rest ∙ ap (λ x. least (x ∷ rest)) kept
+-- and so does a list reduced by it
+pub least_reduced : (xs : List ℕ) → unwrap_or (reduce min xs) 0 ≡ least xs
+least_reduced [] = refl
+least_reduced (x ∷ xs) = least_folded x xs

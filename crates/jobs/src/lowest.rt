@@ -3,25 +3,15 @@ ghost use Rattle.std.specs.Prelude.{◌≡◌, ◌<◌, ◌∷◌};
 ghost use Rattle.jobs.specs.Choosing.{least};
 
 use codes::code::{Code, Generator, Qubit};
-use codes::limits::MOST_WEIGHT;
+use codes::families::{ByCheck, Generators};
+use matrices::families::Neighbours;
 
 // The lowest qubit of the generator; qubit 0 where it has none.
 pub(crate) fn lowest_qubit<C: Code>(code: &C, g: Generator) -> Qubit
     requires { g.0 < (C.layout code.now).generators }
     ensures { result.0 ≡ least ((C.layout code.now).of_generator g.0) }
 {
-    let Some(mut lowest) = code.generator_qubit(g, 0) else {
-        return Qubit(0);
-    };
-    for k in 1..MOST_WEIGHT {
-        let Some(v) = code.generator_qubit(g, k) else {
-            break;
-        };
-        if v.0 < lowest.0 {
-            lowest = v;
-        }
-    }
-    lowest
+    Qubit(Neighbours::of(Generators { code }, g.0).min().unwrap_or(0))
 }
 
 // The lowest of `from` and of the checks of the qubit.
@@ -29,14 +19,5 @@ pub(crate) fn lowest_check<C: Code>(code: &C, from: u32, v: Qubit) -> u32
     requires { v.0 < (C.layout code.now).qubits }
     ensures { result ≡ least (from ∷ (C.layout code.now).checks_of v.0) }
 {
-    let mut lowest = from;
-    for k in 0..MOST_WEIGHT {
-        let Some(u) = code.qubit_check(v, k) else {
-            break;
-        };
-        if u.0 < lowest {
-            lowest = u.0;
-        }
-    }
-    lowest
+    Neighbours::of(ByCheck { code }, v.0).fold(from, |lowest, u| lowest.min(u))
 }
