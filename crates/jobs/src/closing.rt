@@ -21,7 +21,7 @@ pub(crate) enum Closing {
 }
 
 // Where the next one is looked for: no check below `check` is dangling, and no generator below `generator` is wholly open.
-#[derive(Clone, Copy)]
+#[derive(Clone, Copy, Default)]
 pub(crate) struct Cursors {
     check: u32,
     generator: u32,
@@ -99,15 +99,8 @@ pub(crate) fn close_all<C: Code>(code: &C, job: &mut Job) -> Counts
     ensures came { Came (C.layout code.now) none_yet (model job.old) result (model job.new) }
     ensures closed { NothingCloses (C.layout code.now) (model job.new) }
 {
-    let mut counts = Counts {
-        peels: 0,
-        prunes: 0,
-        flips: 0,
-    };
-    let mut from = Cursors {
-        check: 0,
-        generator: 0,
-    };
+    let mut counts = Counts::default();
+    let mut from = Cursors::default();
     loop {
         let Some(step) = (Position { code, job }).next_closing(from) else {
             return counts;

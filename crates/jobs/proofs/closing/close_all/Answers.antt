@@ -1,8 +1,10 @@
-use Rattle.std.proofs.Common.{◌<◌, sym, refl, subst, arith}
+use Rattle.std.proofs.Common.{◌≡◌, ◌<◌, sym, ap, subst, arith}
 use Rattle.moves.specs.Jobs.{Model}
 use Rattle.moves.specs.Held.{model}
 use Rattle.jobs.specs.declared.counting.Counts.{Counts}
 use Rattle.jobs.specs.declared.closing.Cursors.{Cursors}
+use Rattle.jobs.specs.Choosing.{lowest}
+use Rattle.jobs.specs.Moving.{dangling, wholly_open}
 use Rattle.jobs.specs.Runs.{enough}
 use Rattle.jobs.specs.Closings.{as_move, Passed, cursors_after}
 use Rattle.jobs.specs.Progress.{with_move, none_yet, Came}
@@ -12,7 +14,13 @@ use Rattle.jobs.proofs.closing.close_all.Goals as goal
 
 pub loop-step-init : goal.loop-step-init
 loop-step-init g c =
-    (begins (g.C.Code.layout c.args.code.now) (g.met.C.Code.sound c.args.code.now) none_yet (model c.args.job.now) c.requires, record { peeled = refl; pruned = refl })
+    let l = g.C.Code.layout c.args.code.now in
+    let m = model c.args.job.now in
+    let zero = c.default-counts.ensures in
+    let none : none_yet ≡ c.default-counts.result = λ i. record { peels = sym zero.0 i; prunes = sym zero.1.0 i; flips = sym zero.1.1 i } in (
+      subst (λ (n : Counts). Came l none_yet m n m) none (begins l (g.met.C.Code.sound c.args.code.now) none_yet m c.requires),
+      record { peeled = ap (λ k. lowest k (dangling l m)) c.default-from.ensures.0; pruned = ap (λ k. lowest k (wholly_open l m)) c.default-from.ensures.1 },
+    )
 
 pub loop-step-smaller : goal.loop-step-smaller
 loop-step-smaller g c =

@@ -1,7 +1,6 @@
 use Rattle.std.proofs.Common.{◌<◌, sym, ap, subst, arith}
 use Rattle.moves.specs.Jobs.{Model}
 use Rattle.moves.specs.Held.{model}
-use Rattle.jobs.specs.declared.counting.Counts.{Counts}
 use Rattle.jobs.specs.Moving.{flip}
 use Rattle.jobs.specs.Runs.{enough}
 use Rattle.jobs.specs.Closings.{NothingCloses}
@@ -14,11 +13,11 @@ pub loop-g-init : goal.loop-g-init
 loop-g-init g c =
     (begins (g.C.Code.layout c.args.code.now) (g.met.C.Code.sound c.args.code.now) c.args.counts (model c.args.job.now) c.requires.patterns, c.requires.closed)
 
-pub overflow_add-flips : goal.overflow_add-flips
-overflow_add-flips g c =
+pub overflow_add-counts : goal.overflow_add-counts
+overflow_add-counts g c =
     let l = g.C.Code.layout c.args.code.now in
     let m = model c.loop-g.job in
-    let n : Counts = record { peels = c.args.counts.peels; prunes = c.args.counts.prunes; flips = c.loop-g.flips } in
+    let n = c.loop-g.counts in
     let k = flip c.in-Some.g.0 in
     let less = falls l (g.met.C.Code.sound c.args.code.now) c.args.counts (model c.args.job.now) n m c.loop-g.invariant.0 k (flip_next l m c.in-Some.g.0 c.loop-g.invariant.1 c.in-Some.ensures) in
     omega (arith, less, c.loop-g.invariant.0.few, c.requires.few)
@@ -27,7 +26,7 @@ pub loop-g-smaller : goal.loop-g-smaller
 loop-g-smaller g c =
     let l = g.C.Code.layout c.args.code.now in
     let m = model c.loop-g.job in
-    let n : Counts = record { peels = c.args.counts.peels; prunes = c.args.counts.prunes; flips = c.loop-g.flips } in
+    let n = c.loop-g.counts in
     let k = flip c.in-Some.g.0 in
     let less = falls l (g.met.C.Code.sound c.args.code.now) c.args.counts (model c.args.job.now) n m c.loop-g.invariant.0 k (flip_next l m c.in-Some.g.0 c.loop-g.invariant.1 c.in-Some.ensures) in
     subst (λ (x : Model). enough x < enough m) (sym (ap (λ r. r.1) c.flip.ensures)) less
@@ -37,7 +36,7 @@ loop-g-preserved g c =
     let l = g.C.Code.layout c.args.code.now in
     let start = model c.args.job.now in
     let m = model c.loop-g.job in
-    let n : Counts = record { peels = c.args.counts.peels; prunes = c.args.counts.prunes; flips = c.loop-g.flips } in
+    let n = c.loop-g.counts in
     let a = c.in-Some.g.0 in
     let on = goes_on l (g.met.C.Code.sound c.args.code.now) c.args.counts start n m c.loop-g.invariant.0 (flip a) (flip_next l m a c.loop-g.invariant.1 c.in-Some.ensures) in
     subst (λ (x : Model). Came l c.args.counts start (with_move n (flip a)) x × NothingCloses l x) (sym (ap (λ r. r.1) c.flip.ensures)) (on, still_closed l m a c.loop-g.invariant.1)
