@@ -101,12 +101,10 @@ pub(crate) fn close_all<C: Code>(code: &C, job: &mut Job) -> Counts
 {
     let mut counts = Counts::default();
     let mut from = Cursors::default();
-    loop {
-        let Some(step) = (Position { code, job }).next_closing(from) else {
-            return counts;
-        };
+    while let Some(step) = (Position { code, job }).next_closing(from) {
         make(code, job, step);
         from = from.after(code, step);
         counts = counts.with(step);
     }
+    counts
 }

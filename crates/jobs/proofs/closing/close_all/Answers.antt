@@ -60,5 +60,5 @@ loop-step-preserved g c =
       subst (λ (at : Cursors). Passed l x at) (sym c.after-from.ensures) made.1,
     )
 
-pub returns-in_default : goal.returns-in_default
-returns-in_default g c = record { came = c.loop-step.invariant.0; closed = c.in_default.ensures }
+pub returns : goal.returns
+returns g c = record { came = c.loop-step.invariant.0; closed = c.in_default.ensures }
