@@ -1,26 +1,14 @@
-use Rattle.std.proofs.Common.{◌≡◌, ◌<◌, sym, ap, subst, arith}
+use Rattle.std.proofs.Common.{◌<◌, sym, subst, arith}
 use Rattle.moves.specs.Jobs.{Model}
 use Rattle.moves.specs.Held.{model}
 use Rattle.jobs.specs.declared.counting.Counts.{Counts}
 use Rattle.jobs.specs.declared.closing.Cursors.{Cursors}
-use Rattle.jobs.specs.Choosing.{lowest}
-use Rattle.jobs.specs.Moving.{dangling, wholly_open}
 use Rattle.jobs.specs.Runs.{enough}
 use Rattle.jobs.specs.Closings.{as_move, Passed, cursors_after}
 use Rattle.jobs.specs.Progress.{with_move, none_yet, Came}
-use Rattle.jobs.proofs.Running.{begins, falls, goes_on, few_moves}
+use Rattle.jobs.proofs.Running.{falls, goes_on, few_moves}
 use Rattle.jobs.proofs.Closed.{step_next, step_shuts, step_passed}
 use Rattle.jobs.proofs.closing.close_all.Goals as goal
-
-pub loop-step-init : goal.loop-step-init
-loop-step-init g c =
-    let l = g.C.Code.layout c.args.code.now in
-    let m = model c.args.job.now in
-    let zero = c.default-counts.ensures in
-    let none : none_yet ≡ c.default-counts.result = λ i. record { peels = sym zero.0 i; prunes = sym zero.1.0 i; flips = sym zero.1.1 i } in (
-      subst (λ (n : Counts). Came l none_yet m n m) none (begins l (g.met.C.Code.sound c.args.code.now) none_yet m c.requires),
-      record { peeled = ap (λ k. lowest k (dangling l m)) c.default-from.ensures.0; pruned = ap (λ k. lowest k (wholly_open l m)) c.default-from.ensures.1 },
-    )
 
 pub loop-step-smaller : goal.loop-step-smaller
 loop-step-smaller g c =
@@ -59,6 +47,3 @@ loop-step-preserved g c =
       subst (λ (n : Counts). Came l none_yet start n x) (sym c.with-counts.ensures) made.0,
       subst (λ (at : Cursors). Passed l x at) (sym c.after-from.ensures) made.1,
     )
-
-pub returns : goal.returns
-returns g c = record { came = c.loop-step.invariant.0; closed = c.in_default.ensures }

@@ -5,13 +5,9 @@ use Rattle.jobs.specs.Moving.{flip}
 use Rattle.jobs.specs.Runs.{enough}
 use Rattle.jobs.specs.Closings.{NothingCloses}
 use Rattle.jobs.specs.Progress.{with_move, Came}
-use Rattle.jobs.proofs.Running.{begins, falls, goes_on}
-use Rattle.jobs.proofs.Flipped.{flip_next, flip_ended, still_closed}
+use Rattle.jobs.proofs.Running.{falls, goes_on}
+use Rattle.jobs.proofs.Flipped.{flip_next, still_closed}
 use Rattle.jobs.proofs.flipping.flip_all.Goals as goal
-
-pub loop-g-init : goal.loop-g-init
-loop-g-init g c =
-    (begins (g.C.Code.layout c.args.code.now) (g.met.C.Code.sound c.args.code.now) c.args.counts (model c.args.job.now) c.requires.patterns, c.requires.closed)
 
 pub overflow_add-counts : goal.overflow_add-counts
 overflow_add-counts g c =
@@ -40,9 +36,3 @@ loop-g-preserved g c =
     let a = c.in-Some.g.0 in
     let on = goes_on l (g.met.C.Code.sound c.args.code.now) c.args.counts start n m c.loop-g.invariant.0 (flip a) (flip_next l m a c.loop-g.invariant.1 c.in-Some.ensures) in
     subst (λ (x : Model). Came l c.args.counts start (with_move n (flip a)) x × NothingCloses l x) (sym (ap (λ r. r.1) c.flip.ensures)) (on, still_closed l m a c.loop-g.invariant.1)
-
-pub returns : goal.returns
-returns g c =
-    let l = g.C.Code.layout c.args.code.now in
-    let m = model c.loop-g.job in
-    record { came = c.loop-g.invariant.0; ended = flip_ended l m c.loop-g.invariant.1 c.in_default.ensures }
