@@ -1,5 +1,5 @@
 -- The lowest number of a set, found one number after another. Assumes nothing.
-use Rattle.std.proofs.Common.{◌≡◌, ℕ, zero, suc, ◌+◌, ◌-◌, ◌<◌, ◌≤◌, min, Bool, true, false, List, [], ◌∷◌, length, get_or, is_some, Some, None, Option, sym, refl, ap, ◌∙◌, subst, ⊎_elim, add-one, arith}
+use Rattle.std.proofs.Common.{◌≡◌, ℕ, zero, suc, ◌+◌, ◌-◌, ◌<◌, ◌≤◌, min, Bool, true, false, List, [], ◌∷◌, length, get_or, is_some, Some, None, Option, sym, refl, ap, ◌∙◌, subst, ⊎_elim, arith}
 use Rattle.std.proofs.iter.Yields.{nat_range_steps}
 use Rattle.std.proofs.iter.runs.Sources.{range_runs}
 use Rattle.std.proofs.lemmas.Iterator.Adapters.{option_map_id}
@@ -15,16 +15,12 @@ use denote.Param.Members.{Mut}
 use denote.Ref.{Bor}
 use Rattle.std.proofs.lemmas.Iterator.{YieldsList, YieldsList-from_range, cases_from_any, first_from_Range}
 use Rattle.std.specs.Option.{option_map}
-use Rattle.std.proofs.lemmas.Bool.{cases_lt, cond-true, cond-false}
+use Rattle.std.proofs.lemmas.Bool.{cases_lt, cond-true}
 use Rattle.patterns.specs.Sets.{Set}
 use Rattle.jobs.proofs.Picks.{none_is, lowest_none, none_below, found_below}
 use Rattle.jobs.specs.Choosing.{or_at, lowest, some_below, least}
 
 module _ (s : Set) where
-  -- none below n, nor n
-  pub still_none : (n : ℕ) → lowest n s ≡ None → false ≡ s n → lowest (n + 1) s ≡ None
-  still_none n none off = rw add-one (ap (λ o. or_at o s n) none ∙ cond-false (s n) (Some n) None (sym off))
-
   -- none below k, but k
   pub lowest_is : (k n : ℕ) → lowest k s ≡ None → true ≡ s k → k < n → Some k ≡ lowest n s
   lowest_is k zero none on h = absurd (omega arith)
@@ -35,10 +31,6 @@ module _ (s : Set) where
       let here : n ≡ k = omega arith in
       sym (ap (λ i. or_at (lowest i s) s i) here ∙ ap (λ o. or_at o s k) none ∙ cond-true (s k) (Some k) None (sym on)))
       (cases_lt k n)
-
-pub some_mapped : {X Y : Type 0} (f : X → Y) (o : Option X) → is_some (option_map f o) ≡ is_some o
-some_mapped f None = refl
-some_mapped f (Some x) = refl
 
 -- ---- calls at the numbers of a range, one after another
 
