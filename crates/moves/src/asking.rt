@@ -53,7 +53,7 @@ impl<'a> Job<'a> {
     }
 
     // The one open qubit of the check, if there is just one.
-    pub(crate) fn only_open<C: Code>(&self, code: &C, u: Check) -> Option<Qubit>
+    pub fn only_open<C: Code>(&self, code: &C, u: Check) -> Option<Qubit>
         requires { u.0 < (C.layout code.now).checks }
         ensures { option_map (λ v. v.0) result ≡ single (meeting (C.layout code.now) (member (model self.now).opened) u.0) }
     {
@@ -61,7 +61,7 @@ impl<'a> Job<'a> {
     }
 
     // Whether all qubits of the generator are open.
-    pub(crate) fn all_open<C: Code>(&self, code: &C, g: Generator) -> bool
+    pub fn all_open<C: Code>(&self, code: &C, g: Generator) -> bool
         requires { g.0 < (C.layout code.now).generators }
         ensures { result ≡ all_in (member (model self.now).opened) ((C.layout code.now).of_generator g.0) }
     {
@@ -69,7 +69,7 @@ impl<'a> Job<'a> {
     }
 
     // The best set of the generator's open qubits, if it lowers the weight of the remaining syndrome.
-    pub(crate) fn best_flip<C: Code>(&self, code: &C, g: Generator) -> Option<Flip>
+    pub fn best_flip<C: Code>(&self, code: &C, g: Generator) -> Option<Flip>
         ensures { option_map told result ≡ best_flip (C.layout code.now) (model self.now).remaining (model self.now).opened g.0 }
     {
         best_flip(code, self.remaining, self.opened, g)
