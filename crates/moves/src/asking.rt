@@ -1,10 +1,10 @@
 // What every call on a job asks and reads first.
-ghost use Rattle.std.specs.Prelude.{◌≡◌, ◌<◌};
+ghost use Rattle.std.specs.Prelude.{◌≡◌};
 ghost use Rattle.std.specs.Option.{option_map};
 ghost use Rattle.refusals.specs.Questions.{first_no, answer};
 ghost use Rattle.patterns.specs.Patterns.{member};
 ghost use Rattle.moves.specs.Jobs.{lengths, pattern_questions};
-ghost use Rattle.moves.specs.Moves.{single, all_in, meeting};
+ghost use Rattle.scans.specs.Scans.{only_one, all_held};
 ghost use Rattle.flips.specs.Flips.{best_flip};
 ghost use Rattle.flips.specs.Held.{told};
 ghost use Rattle.moves.specs.Held.{model};
@@ -54,16 +54,14 @@ impl<'a> Job<'a> {
 
     // The one open qubit of the check, if there is just one.
     pub fn only_open<C: Code>(&self, code: &C, u: Check) -> Option<Qubit>
-        requires { u.0 < (C.layout code.now).checks }
-        ensures { option_map (λ v. v.0) result ≡ single (meeting (C.layout code.now) (member (model self.now).opened) u.0) }
+        ensures { option_map (λ v. v.0) result ≡ only_one (C.layout code.now) (member (model self.now).opened) u.0 }
     {
         only_one(code, self.opened, u)
     }
 
     // Whether all qubits of the generator are open.
     pub fn all_open<C: Code>(&self, code: &C, g: Generator) -> bool
-        requires { g.0 < (C.layout code.now).generators }
-        ensures { result ≡ all_in (member (model self.now).opened) ((C.layout code.now).of_generator g.0) }
+        ensures { result ≡ all_held (C.layout code.now) (member (model self.now).opened) g.0 }
     {
         all_held(code, self.opened, g)
     }
