@@ -65,9 +65,6 @@ module _ (rows : List (List ℕ)) (start : List ℕ) (few : length rows ≤ 12) 
   pub walked_is : (r : Choice) → Some r ≡ walk_of rows start → r ≡ walked rows start 0 0 (record { weight = weighed start; size = 0; picks = 0 })
   walked_is r e = let one = there_is_one in cc
 
-  pub never_none : None ≡ walk_of rows start → ⊥
-  never_none e = let one = there_is_one in let z : ◌≡◌ {A = ℕ} 0 1 = cc in omega arith
-
 pub choice_right : (c : Layout) → Sound c → (remaining xs ds start : List ℕ) (rows : List (List ℕ)) → Well c.checks remaining → Local c (member remaining) xs ds start rows
     → (r : Choice) → r ≡ walked rows start 0 0 (record { weight = weighed start; size = 0; picks = 0 })
     → (r.weight ≤ weighed start) × BestBy (left_by c remaining) xs (weighed start - r.weight) r.picks

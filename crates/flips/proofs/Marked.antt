@@ -185,10 +185,6 @@ none_looked_at ds row = marks_none ds (λ w. has row w ⊕ has row w) (λ w _. t
     twice true = refl
     twice false = refl
 
--- the whole row is
-pub all_looked_at : (ds row : List ℕ) (ws : List ℕ) → Marks ds (λ w. has row w ⊕ has [] w) ws → Marks ds (has row) ws
-all_looked_at ds row ws m = marks_same ds (λ w. has row w ⊕ has [] w) (has row) ws (λ w _. plus_zero (has row w)) m
-
 -- one of the row that stands among the list
 pub next_marked : (ds row us ws : List ℕ) (j u : ℕ) → Apart ds → length ds ≤ 144 → Apart (u ∷ us) → j < length ds → get_or ds j 0 ≡ u
     → Marks ds (λ w. has row w ⊕ has (u ∷ us) w) ws → Marks ds (λ w. has row w ⊕ has us w) (marked ws j)

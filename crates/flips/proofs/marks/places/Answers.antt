@@ -1,4 +1,4 @@
-use Rattle.std.proofs.Common.{ℕ, ◌+◌, false, List, [], take, sym, refl, ◌∙◌, subst, arith, take_all}
+use Rattle.std.proofs.Common.{ℕ, ◌+◌, false, List, [], take, sym, refl, ◌∙◌, subst, arith}
 use Rattle.std.proofs.lemmas.Bool.{both_ways}
 use Rattle.patterns.specs.Patterns.{member}
 use Rattle.flips.specs.Local.{Marks}
@@ -19,6 +19,3 @@ loop-j-preserved c =
       | then-contains w ↦ subst M (sym (w.words-is ∙ w.mark.ensures)) (marks_next ds p c.loop-j.words j (omega arith) c.requires w.if-contains.ensures c.loop-j.invariant)
       | else-contains w ↦ subst M (sym w.words-is) (marks_skip ds p c.loop-j.words j (omega arith) w.if-contains.ensures c.loop-j.invariant)
     ]
-
-pub returns : goal.returns
-returns c = subst (λ l. Marks l (member c.args.remaining.now) c.loop-j.words) (take_all c.loop-j.j c.args.checks.now c.loop-j-test.false) c.loop-j.invariant
