@@ -1,13 +1,12 @@
 -- Bytes that were split into the parts that tell a code. Assumes nothing.
-use Rattle.std.proofs.Common.{◌≡◌, ℕ, ◌*◌, ◌≤◌, leb, List, [], ◌∷◌, length, get_or, take, drop, Some, None, Option, sym, ap, ◌∙◌, subst, arith}
+use Rattle.std.proofs.Common.{◌≡◌, ℕ, ◌*◌, ◌≤◌, leb, List, [], ◌∷◌, length, get_or, take, drop, Some, None, sym, ap, ◌∙◌, subst, refl, arith}
 use Rattle.std.specs.List.{IsSplitAt}
 use Rattle.std.proofs.lemmas.Bool.{le-leb, cond-true}
-use Rattle.refusals.specs.declared.Refusal.{Refusal}
 use Rattle.patterns.specs.Patterns.{width}
 use Rattle.graph_files.specs.Files.{word}
 use Rattle.codes.specs.Layouts.{Layout}
 use Rattle.written_codes.specs.Writing.{written_refusal, written_code}
-use Rattle.foreign.specs.Told.{unless_refused, shifts_code, cyclic_code, rows_code, split_code, written_told}
+use Rattle.foreign.specs.Told.{shifts_code, cyclic_code, rows_code, split_code, written_told}
 
 -- the count and the shifts of a cyclic graph
 pub cyclic_split : (bytes : List ℕ) (n : ℕ) (shifts : List ℕ) → 1 ≤ length bytes → n ≡ get_or bytes 0 0 → shifts ≡ drop 1 bytes → shifts_code n shifts ≡ cyclic_code bytes
@@ -26,7 +25,7 @@ rows_split n k l n' k' l' k'' w rows a b en ek el ec ew s =
 
 -- a code that no question refuses is the one that is told
 pub rows_made : (n k l : ℕ) (a b : List ℕ) (c : Layout) → (written_refusal n k l a b ≡ None) × (c ≡ written_code n k l a b) → rows_code n k l a b ≡ Some c
-rows_made n k l a b c made = ap (λ (q : Option Refusal). unless_refused q (written_code n k l a b)) made.0 ∙ ap Some (sym made.1)
+rows_made n k l a b c made = rw (made.0, made.1) refl
 
 -- the three counts of a code that is written out, and its rows
 pub written_split : (bytes : List ℕ) (n k l : ℕ) (rows : List ℕ) → 6 ≤ length bytes → n ≡ word bytes 0 → k ≡ word bytes 2 → l ≡ word bytes 4 → rows ≡ drop 6 bytes → split_code n k l rows ≡ written_told bytes
