@@ -6,19 +6,13 @@ use anyhow::anyhow;
 use codes::code::{Check, Code, Generator, Qubit};
 use graph_files::reading::read_graph;
 use graphs::graph::{CheckNode, Graph, VariableNode};
+use inputs::read_up_to;
 use products::product::Product;
 use refusals::Refusal;
-use std::io::Read;
 use std::{env, io};
 
 // Of a longer input, this many bytes are the file.
 const MOST_INPUT: u64 = 8192;
-
-fn read_input(rt: &HostRuntime) -> io::Result<Vec<u8>> {
-    let mut bytes = Vec::new(rt.alloc());
-    rt.stdin().take(MOST_INPUT).read_to_end(&mut bytes)?;
-    Ok(bytes)
-}
 
 fn edges<G: Graph>(graph: &G) -> u32 {
     let mut sum: u32 = 0;
@@ -116,7 +110,7 @@ fn wants_qubits(rt: &HostRuntime) -> anyhow::Result<bool> {
 
 fn run(rt: &HostRuntime) -> anyhow::Result<()> {
     let qubits = wants_qubits(rt)?;
-    let bytes = read_input(rt)?;
+    let bytes = read_up_to(rt.alloc(), rt.stdin(), MOST_INPUT)?;
     match read_graph(rt.alloc(), bytes.as_slice()) {
         Ok(graph) => {
             print_graph(rt, &graph)?;

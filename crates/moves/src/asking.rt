@@ -3,7 +3,7 @@ ghost use Rattle.std.specs.Prelude.{◌≡◌, ◌<◌};
 ghost use Rattle.std.specs.Option.{option_map};
 ghost use Rattle.refusals.specs.Questions.{first_no, answer};
 ghost use Rattle.patterns.specs.Patterns.{member};
-ghost use Rattle.moves.specs.Jobs.{pattern_questions};
+ghost use Rattle.moves.specs.Jobs.{lengths, pattern_questions};
 ghost use Rattle.moves.specs.Moves.{single, all_in, meeting};
 ghost use Rattle.flips.specs.Flips.{best_flip};
 ghost use Rattle.flips.specs.Held.{told};
@@ -26,10 +26,7 @@ impl<'a> Job<'a> {
     {
         let qubits = code.qubits();
         let checks = code.checks();
-        if !fits(self.remaining, checks)
-            || !fits(self.opened, qubits)
-            || !fits(self.correction, qubits)
-        {
+        if !self.fits(checks, qubits) {
             return Err(Refusal::WrongPatternLength);
         }
         if !unused_are_zero(self.remaining, checks)
@@ -39,6 +36,13 @@ impl<'a> Job<'a> {
             return Err(Refusal::UnusedBitSet);
         }
         Ok(())
+    }
+
+    // Whether the patterns have the lengths of so many checks and qubits.
+    pub(crate) fn fits(&self, checks: u32, qubits: u32) -> bool
+        ensures { result ≡ lengths checks qubits (model self.now) }
+    {
+        fits(self.remaining, checks) && fits(self.opened, qubits) && fits(self.correction, qubits)
     }
 
     // Whether the check is in the remaining syndrome.

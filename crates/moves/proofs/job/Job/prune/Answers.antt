@@ -3,7 +3,6 @@ use Rattle.std.proofs.lemmas.Result.{err_from_is_err_and}
 use Rattle.refusals.specs.Questions.{first_no}
 use Rattle.refusals.proofs.Asking.{first_no_front, answer_ok, answer_err}
 use Rattle.matrices.proofs.Lookups.{size_within}
-use Rattle.patterns.specs.Patterns.{member}
 use Rattle.scans.proofs.Scanning.{held_has}
 use Rattle.moves.specs.Jobs.{pattern_questions, counted, closed}
 use Rattle.moves.specs.Moves.{prune_questions}
