@@ -68,15 +68,7 @@ at_stalled false false false false false h = record { first = refl; second = ref
 
 to_stalled : (a b d e f : Bool) → Fails a b d e f → five a b d e f ≡ Stalled
 unfolding five
-to_stalled a b d e f h =
-    ap (λ x. cond x Contradicted (five_rest b d e f)) h.first
-    ∙ ap (λ x. cond x Settled (cond d Moving (cond e Matched (cond f Moving Stalled)))) h.second
-    ∙ ap (λ x. cond x Moving (cond e Matched (cond f Moving Stalled))) h.third
-    ∙ ap (λ x. cond x Matched (cond f Moving Stalled)) h.fourth
-    ∙ ap (λ x. cond x Moving Stalled) h.fifth
-  where
-    five_rest : Bool → Bool → Bool → Bool → Verdict
-    five_rest b d e f = cond b Settled (cond d Moving (cond e Matched (cond f Moving Stalled)))
+to_stalled a b d e f h = rw (h.first, h.second, h.third, h.fourth, h.fifth) refl
 
 -- ---- a job's verdict
 

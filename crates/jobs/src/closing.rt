@@ -80,6 +80,7 @@ impl<'a, 'b, C: Code> Position<'a, 'b, C> {
 }
 
 // Makes the step, by the call that a single move is made with; a refused one leaves the job as it was.
+// The code and the job that is changed stay two parameters: each method of a struct that holds a `&mut` would have to promise that it still holds the same one.
 fn make<C: Code>(code: &C, job: &mut Job, step: Closing)
     ensures { model job.new ≡ moved (C.layout code.now) (model job.old) (as_move step) }
 {
