@@ -1,5 +1,5 @@
 use Rattle.std.proofs.Common.{ℕ, ◌<◌, get_or, unwrap_or, sym, ap, ◌∙◌, arith}
-use Rattle.std.proofs.lemmas.Result.{err_from_is_err_and, MatchResult-weaker}
+use Rattle.std.proofs.lemmas.Result.{MatchResult-weaker}
 use Rattle.refusals.specs.declared.Refusal.TheVariants.{OutOfMemory}
 use Rattle.graph_files.specs.Files.{file_of}
 use Rattle.graph_files.proofs.Heads.{heads_asked, rows_tell}
