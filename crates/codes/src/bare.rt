@@ -50,11 +50,7 @@ impl<G: Graph> Code for Bare<G> {
     }
 
     fn generators_of(&self, v: Qubit) -> Option<u32> {
-        if v.0 < self.graph.variables() {
-            Some(0)
-        } else {
-            None
-        }
+        (v.0 < self.graph.variables()).then_some(0)
     }
 
     fn check_qubit(&self, u: Check, k: u32) -> Option<Qubit> {

@@ -4,4 +4,5 @@
 pub mod bare;
 pub mod code;
 pub mod exchanged;
+pub mod families;
 pub mod limits;

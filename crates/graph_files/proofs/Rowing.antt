@@ -2,15 +2,14 @@
 use Rattle.std.proofs.Common.{◌≡◌, ℕ, ◌+◌, ◌*◌, ◌<◌, ◌≤◌, List, ◌++◌, length, take, drop, replicate, sym, ap, ◌∙◌, ap₂, mul_comm, add-mul, mul-add, arith}
 use borrow.Rule.Slice.PartMut.{put_mid, post_of}
 use Rattle.std.proofs.lemmas.Nat.{mul-le}
-use Rattle.std.proofs.lemmas.List.{append_assoc, at_drop_more, at_drop_all, drop_at, drop-drop, length-append, length-replicate, take_at}
+use Rattle.std.proofs.lemmas.List.{append_assoc, drop_at, drop-drop, length-append, length-replicate, take_at}
 use Rattle.std.proofs.lemmas.Slice.{take-put_mid}
 use Rattle.std.proofs.lemmas.Bool.{eq-eqb}
 use Rattle.patterns.specs.Sets.{has}
-use Rattle.patterns.specs.Patterns.{toggled, toggled_all, width}
+use Rattle.patterns.specs.Patterns.{toggled_all, width}
 use Rattle.patterns.proofs.Packed.{length_pattern}
 use Rattle.patterns.proofs.Added.{added_to_none}
 use Rattle.patterns.proofs.Toggled.{toggled_all_is}
-use Rattle.matrices.proofs.Lookups.{Found}
 use Rattle.graphs.specs.Tanners.{Tanner, Wired}
 use Rattle.graph_files.specs.Files.{head_of, row_of, rows_of, file_of}
 use Rattle.graph_files.proofs.Blocks.{joined_more, length_blocks}
@@ -23,14 +22,6 @@ row_none t p w h row e =
     ap (λ r. toggled_all r (t.of_check p)) e
     ∙ toggled_all_is n (t.of_check p) zeros (eq-eqb (length zeros) (width n) (length-replicate {A = ℕ} (width n) 0)) (λ v on. w.paired.row_within p v h on) (w.paired.row_apart p h)
     ∙ added_to_none n (has (t.of_check p))
-
--- one variable more
-pub row_more : (row list all : List ℕ) (k v : ℕ) → Found list k v → toggled_all row (drop k list) ≡ all → toggled_all (toggled row v) (drop (k + 1) list) ≡ all
-row_more row list all k v f e =
-    sym (at_drop_more (toggled_all row) list k 0 f.here ∙ ap (λ x. toggled_all (toggled row x) (drop (k + 1) list)) f.is) ∙ e
-
-pub row_all : (row list all : List ℕ) (k : ℕ) → length list ≤ k → toggled_all row (drop k list) ≡ all → row ≡ all
-row_all row list all k h e = sym (at_drop_all (toggled_all row) list k h) ∙ e
 
 -- the place of a row
 pub row_room : (w p m long : ℕ) → p < m → long ≡ m * w → w * p + w ≤ long

@@ -1,5 +1,5 @@
 // The reader of graph files.
-ghost use Rattle.std.specs.Prelude.{◌≡◌, ◌+◌, ◌*◌, true, Some, None, MatchResult};
+ghost use Rattle.std.specs.Prelude.{◌≡◌, true, Some, None, MatchResult};
 ghost use Rattle.std.specs.Option.{unwrap_or};
 ghost use Rattle.refusals.specs.declared.Refusal.TheVariants.{OutOfMemory};
 ghost use Rattle.refusals.specs.Questions.{first_no, answer};
@@ -11,91 +11,76 @@ use crate::matrix::Matrix;
 use graphs::limits::{MOST_NEIGHBOURS, in_range};
 use matrices::relation::Relation;
 use matrices::rows::{BitColumns, BitRows, joined_to_few};
-use patterns::shapes::width;
 use refusals::Refusal;
 use std::alloc::Global;
 
-const VERSION: u32 = 1;
+const VERSION: u16 = 1;
 
-// What the head of a graph file tells, and the bytes after it.
-#[derive(Clone, Copy)]
-struct Head<'a> {
-    variables: u32,
-    checks: u32,
-    rows: &'a [u8],
-}
-
-// The rows of a graph file that was asked every question: the columns are the variables.
+// The rows of a graph file that was asked every question: a row for each check, a column for each variable.
 #[derive(Clone, Copy)]
 pub struct AskedGraph<'a> {
-    pub checks: u32,
     pub matrix: BitRows<'a>,
+    ghost checks_counted: { counted matrix.rows ≡ true },
+    ghost variables_counted: { counted matrix.columns ≡ true },
+    ghost accepted: { first_no (row_questions matrix.rows matrix.columns matrix.bytes.now) ≡ None },
 }
 
-// The number of two bytes, the high one first.
-fn word(high: u8, low: u8) -> u32
-    ensures { result ≡ 256 * high + low }
-{
-    u32::from(high) * 256 + u32::from(low)
-}
-
-fn read_head<'a>(file: &'a [u8]) -> Result<Head<'a>, Refusal>
+// The rows after the head, and how many of which length the head tells.
+fn read_head<'a>(file: &'a [u8]) -> Result<BitRows<'a>, Refusal>
     ensures { MatchResult result
-        (λ h. (first_no (head_questions file.now) ≡ None)
-        × (h.variables ≡ variables_in file.now)
-        × (h.checks ≡ checks_in file.now)
-        × (h.rows.now ≡ rows_in file.now))
+        (λ m. (first_no (head_questions file.now) ≡ None)
+        × (m.columns ≡ variables_in file.now)
+        × (m.rows ≡ checks_in file.now)
+        × (m.bytes.now ≡ rows_in file.now))
         (λ e. first_no (head_questions file.now) ≡ Some e) }
 {
-    let [t, a, n, v1, v0, n1, n0, m1, m0, rows @ ..] = file else {
+    let [t, a, n, v1, v0, n1, n0, m1, m0, bytes @ ..] = file else {
         return Err(Refusal::HeadCutShort);
     };
-    if *t != b'T' || *a != b'A' || *n != b'N' {
+    if [*t, *a, *n] != *b"TAN" {
         return Err(Refusal::WrongMark);
     }
-    if word(*v1, *v0) != VERSION {
+    if u16::from_be_bytes([*v1, *v0]) != VERSION {
         return Err(Refusal::WrongVersion);
     }
-    let variables = word(*n1, *n0);
-    let checks = word(*m1, *m0);
+    let variables = u32::from(u16::from_be_bytes([*n1, *n0]));
+    let checks = u32::from(u16::from_be_bytes([*m1, *m0]));
     if !in_range(variables) || !in_range(checks) {
         return Err(Refusal::CountOutOfRange);
     }
-    Ok(Head {
-        variables,
-        checks,
-        rows,
+    Ok(BitRows {
+        rows: checks,
+        columns: variables,
+        bytes,
     })
 }
 
 // Asks the rows for their length, their unused bits, and the degrees of checks and variables.
-fn ask_rows(checks: u32, matrix: BitRows<'_>) -> Result<(), Refusal>
-    ensures { result ≡ answer (first_no (row_questions checks matrix.entry.columns matrix.entry.bytes.now)) }
+fn ask_rows(matrix: BitRows<'_>) -> Result<(), Refusal>
+    ensures { result ≡ answer (first_no (row_questions matrix.entry.rows matrix.entry.columns matrix.entry.bytes.now)) }
 {
-    let variables = matrix.columns;
-    if matrix.bytes.len() != checks as usize * width(variables) {
+    if !matrix.fits() {
         return Err(Refusal::WrongLength);
     }
-    if !matrix.unused_are_zero(checks) {
+    if !matrix.unused_are_zero() {
         return Err(Refusal::UnusedBitSet);
     }
-    if !joined_to_few(&matrix, checks, variables, MOST_NEIGHBOURS)
-        || !joined_to_few(&BitColumns { matrix }, variables, checks, MOST_NEIGHBOURS)
+    if !joined_to_few(&matrix, MOST_NEIGHBOURS)
+        || !joined_to_few(&BitColumns { matrix }, MOST_NEIGHBOURS)
     {
         return Err(Refusal::DegreeOutOfRange);
     }
     Ok(())
 }
 
-// The graph of rows that were asked.
-fn build(heap: Global, checks: u32, matrix: BitRows<'_>) -> Result<Matrix, Refusal>
-    requires checks_counted { counted checks ≡ true }
-    requires columns_counted { counted matrix.columns ≡ true }
-    requires accepted { first_no (row_questions checks matrix.columns matrix.bytes.now) ≡ None }
-    ensures { MatchResult result (λ g. graph_of g ≡ rows_graph checks matrix.entry.columns matrix.entry.bytes.now) (λ e. e ≡ OutOfMemory) }
-{
-    let relation = Relation::of(heap, matrix, checks)?;
-    Ok(Matrix { relation })
+impl<'a> AskedGraph<'a> {
+    // The graph of the rows.
+    fn build(self, heap: Global) -> Result<Matrix, Refusal>
+        ensures { MatchResult result (λ g. graph_of g ≡ rows_graph self.entry.matrix.rows self.entry.matrix.columns self.entry.matrix.bytes.now) (λ e. e ≡ OutOfMemory) }
+    {
+        let relation = Relation::of(heap, self.matrix)?;
+        Ok(Matrix { relation })
+    }
 }
 
 // Asks a file every question, and makes no graph of it.
@@ -103,20 +88,13 @@ pub fn ask_graph<'a>(file: &'a [u8]) -> Result<AskedGraph<'a>, Refusal>
     ensures { MatchResult result
         (λ g. (graph_refusal file.now ≡ None)
         × (g.matrix.columns ≡ variables_in file.now)
-        × (g.checks ≡ checks_in file.now)
+        × (g.matrix.rows ≡ checks_in file.now)
         × (g.matrix.bytes.now ≡ rows_in file.now))
         (λ e. graph_refusal file.now ≡ Some e) }
 {
-    let head = read_head(file)?;
-    let matrix = BitRows {
-        columns: head.variables,
-        bytes: head.rows,
-    };
-    ask_rows(head.checks, matrix)?;
-    Ok(AskedGraph {
-        checks: head.checks,
-        matrix,
-    })
+    let matrix = read_head(file)?;
+    ask_rows(matrix)?;
+    Ok(AskedGraph { matrix })
 }
 
 // The graph of a file.
@@ -125,6 +103,5 @@ pub fn read_graph(heap: Global, file: &[u8]) -> Result<Matrix, Refusal>
         (λ g. (graph_refusal file.now ≡ None) × (graph_of g ≡ graph_in file.now) × (file_of (graph_of g) ≡ file.now))
         (λ e. e ≡ unwrap_or (graph_refusal file.now) OutOfMemory) }
 {
-    let asked = ask_graph(file)?;
-    build(heap, asked.checks, asked.matrix)
+    ask_graph(file)?.build(heap)
 }

@@ -4,3 +4,4 @@ pub mod Cycles
 pub mod Shifts
 pub mod Rotations
 pub mod Turns
+pub mod Shorts

@@ -73,9 +73,6 @@ wired_cyclic n ss count shifts rises =
 -- ---- what a mapped list answers
 
 module _ (n : ℕ) (f : ℕ → ℕ → ℕ) (ss : List ℕ) (u : ℕ) (here : u < n) where
-  pub size_mapped : Some (length ss) ≡ size_at n (λ u. map (f u) ss) u
-  size_mapped = ap Some (sym (length-map ss (f u))) ∙ sym (cond-true (nat_lt u n) (Some (length (map (f u) ss))) None (lt-ltb u n here))
-
   at_node : (k : ℕ) → neighbour n (λ u. map (f u) ss) u k ≡ option_map (f u) (slice_get ss k)
   at_node k = cond-true (nat_lt u n) (slice_get (map (f u) ss) k) None (lt-ltb u n here) ∙ nth_map (f u) ss k
 

@@ -1,5 +1,5 @@
 // Cyclic graphs: as many checks as variables, and check p is joined to the variables (p + shift) mod n.
-ghost use Rattle.std.specs.Prelude.{◌≡◌, ◌<◌, true, IfSome, None, MatchResult};
+ghost use Rattle.std.specs.Prelude.{◌≡◌, ◌<◌, true, cond, length, nat_lt, IfSome, Some, None, MatchResult};
 ghost use Rattle.std.specs.List.{slice_get};
 ghost use Rattle.std.specs.Option.{unwrap_or};
 ghost use Rattle.refusals.specs.declared.Refusal.TheVariants.{OutOfMemory};
@@ -54,6 +54,13 @@ impl Cyclic {
         Ok(Cyclic { count, shifts })
     }
 
+    // How many neighbours node u has, a variable or a check.
+    fn degree(&self, u: u32) -> Option<u32>
+        ensures { result ≡ cond (nat_lt u self.now.count) (Some (length self.now.shifts.items)) None }
+    {
+        (u < self.count).then_some(self.shifts.len() as u32)
+    }
+
     // The k-th shift, which is below the count.
     fn shift(&self, k: u32) -> Option<u32>
         ensures value { result ≡ slice_get self.now.shifts.items k }
@@ -77,17 +84,11 @@ impl Graph for Cyclic {
     }
 
     fn variable_degree(&self, v: VariableNode) -> Option<u32> {
-        if v.0 >= self.count {
-            return None;
-        }
-        Some(self.shifts.len() as u32)
+        self.degree(v.0)
     }
 
     fn check_degree(&self, p: CheckNode) -> Option<u32> {
-        if p.0 >= self.count {
-            return None;
-        }
-        Some(self.shifts.len() as u32)
+        self.degree(p.0)
     }
 
     fn variable_neighbour(&self, v: VariableNode, k: u32) -> Option<CheckNode> {

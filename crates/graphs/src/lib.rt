@@ -2,6 +2,7 @@
 #![tactic(auto)]
 
 pub mod cyclic;
+pub mod families;
 pub mod graph;
 pub mod limits;
 pub mod turned;

@@ -12,5 +12,5 @@ pub const MOST_NEIGHBOURS: u32 = 6;
 pub fn in_range(count: u32) -> bool
     ensures { result ≡ counted count }
 {
-    1 <= count && count <= MOST_NODES
+    (1..=MOST_NODES).contains(&count)
 }

@@ -1,3 +1,4 @@
 pub mod Cuts
 pub mod Lookups
 pub mod Tables
+pub mod Walks

@@ -21,6 +21,10 @@ size_at m of_row u = cond (nat_lt u m) (Some (length (of_row u))) None
 abbrev pub neighbour : ℕ → (ℕ → List ℕ) → ℕ → ℕ → Option ℕ
 neighbour m of_row u k = cond (nat_lt u m) (slice_get (of_row u) k) None
 
+-- the neighbours of node u of m, and none where there is no such node
+abbrev pub neighbours : ℕ → (ℕ → List ℕ) → ℕ → List ℕ
+neighbours m of_row u = cond (nat_lt u m) (of_row u) []
+
 -- the list of row u, and none past the last row
 abbrev pub listed : List (List ℕ) → ℕ → List ℕ
 listed lists u = slice_index_or lists u []

@@ -19,15 +19,15 @@ pub struct Relation {
 }
 
 impl Relation {
-    // The relation of the first `count` rows of the matrix.
-    pub fn of(heap: Global, matrix: BitRows<'_>, count: u32) -> Result<Relation, Refusal>
+    // The relation of the rows of the matrix.
+    pub fn of(heap: Global, matrix: BitRows<'_>) -> Result<Relation, Refusal>
         ensures { MatchResult result
-            (λ x. (lists x.rows.nodes ≡ tabled count matrix.entry.columns (entry matrix.entry.columns matrix.entry.bytes.now))
-            × (lists x.columns.nodes ≡ tabled matrix.entry.columns count (turned_entry matrix.entry.columns matrix.entry.bytes.now)))
+            (λ x. (lists x.rows.nodes ≡ tabled matrix.entry.rows matrix.entry.columns (entry matrix.entry.columns matrix.entry.bytes.now))
+            × (lists x.columns.nodes ≡ tabled matrix.entry.columns matrix.entry.rows (turned_entry matrix.entry.columns matrix.entry.bytes.now)))
             (λ e. e ≡ OutOfMemory) }
     {
-        let rows = Lists::of(heap, &matrix, count, matrix.columns)?;
-        let columns = Lists::of(heap, &BitColumns { matrix }, matrix.columns, count)?;
+        let rows = Lists::of(heap, &matrix)?;
+        let columns = Lists::of(heap, &BitColumns { matrix })?;
         Ok(Relation { rows, columns })
     }
 }

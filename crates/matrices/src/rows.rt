@@ -1,14 +1,26 @@
 // A matrix of bits: rows that are patterns over the columns, one after another in the caller's bytes.
 ghost use Rattle.std.specs.Prelude.{◌≡◌, ℕ};
 ghost use Rattle.patterns.specs.Sets.{Set, tally};
-ghost use Rattle.matrices.specs.Rows.{row, entry, turned_entry, tidy_rows, few};
+ghost use Rattle.matrices.specs.Rows.{row, entry, turned_entry, just_rows, tidy_rows, few};
 
 use patterns::items::contains;
 use patterns::shapes::{unused_are_zero, width};
 
-// What is joined to what: a relation between numbers.
+// What is joined to what: a relation between the first so many numbers, its rows, and the first so many others, its columns.
 pub trait Incidence {
+    ghost height: { Self → ℕ };
+
+    ghost breadth: { Self → ℕ };
+
     ghost joined: { Self → ℕ → Set };
+
+    // How many rows there are.
+    fn rows(&self) -> u32
+        ensures { result ≡ height self.now };
+
+    // How many columns there are.
+    fn columns(&self) -> u32
+        ensures { result ≡ breadth self.now };
 
     fn joins(&self, a: u32, b: u32) -> bool
         ensures { result ≡ joined self.now a b };
@@ -16,6 +28,7 @@ pub trait Incidence {
 
 #[derive(Clone, Copy)]
 pub struct BitRows<'a> {
+    pub rows: u32,
     pub columns: u32,
     pub bytes: &'a [u8],
 }
@@ -32,22 +45,36 @@ impl<'a> BitRows<'a> {
         &self.bytes[from..to]
     }
 
-    // Whether the unused bits of each of `count` rows are zero.
-    pub fn unused_are_zero(&self, count: u32) -> bool
-        ensures { result ≡ tidy_rows count self.now.columns self.now.bytes.now }
+    // Whether there are just the bytes of the rows.
+    pub fn fits(&self) -> bool
+        ensures { result ≡ just_rows self.now.rows self.now.columns self.now.bytes.now }
     {
-        for u in 0..count {
-            if !unused_are_zero(self.row(u), self.columns) {
-                return false;
-            }
-        }
-        true
+        self.bytes.len() == self.rows as usize * width(self.columns)
+    }
+
+    // Whether the unused bits of each row are zero.
+    pub fn unused_are_zero(&self) -> bool
+        ensures { result ≡ tidy_rows self.now.rows self.now.columns self.now.bytes.now }
+    {
+        (0..self.rows).all(|u| unused_are_zero(self.row(u), self.columns))
     }
 }
 
 // The rows of the matrix: which columns each has.
 impl<'a> Incidence for BitRows<'a> {
+    ghost height = { λ m. m.rows };
+
+    ghost breadth = { λ m. m.columns };
+
     ghost joined = { λ m. entry m.columns m.bytes.now };
+
+    fn rows(&self) -> u32 {
+        self.rows
+    }
+
+    fn columns(&self) -> u32 {
+        self.columns
+    }
 
     fn joins(&self, a: u32, b: u32) -> bool {
         contains(self.row(a), b)
@@ -61,34 +88,35 @@ pub struct BitColumns<'a> {
 }
 
 impl<'a> Incidence for BitColumns<'a> {
+    ghost height = { λ m. m.matrix.columns };
+
+    ghost breadth = { λ m. m.matrix.rows };
+
     ghost joined = { λ m. turned_entry m.matrix.columns m.matrix.bytes.now };
+
+    fn rows(&self) -> u32 {
+        self.matrix.columns
+    }
+
+    fn columns(&self) -> u32 {
+        self.matrix.rows
+    }
 
     fn joins(&self, a: u32, b: u32) -> bool {
         contains(self.matrix.row(b), a)
     }
 }
 
-// How many of the first `columns` numbers are joined to `a`.
-pub fn count_joined<M: Incidence>(m: &M, a: u32, columns: u32) -> u32
-    ensures { result ≡ tally columns (M.joined m.now a) }
+// How many columns are joined to `a`.
+pub fn count_joined<M: Incidence>(m: &M, a: u32) -> usize
+    ensures { result ≡ tally (M.breadth m.now) (M.joined m.now a) }
 {
-    let mut count = 0;
-    for b in 0..columns {
-        if m.joins(a, b) {
-            count += 1;
-        }
-    }
-    count
+    (0..m.columns()).filter(|b| m.joins(a, *b)).count()
 }
 
-// Whether each of the first `rows` numbers is joined to at most `most` of the first `columns`.
-pub fn joined_to_few<M: Incidence>(m: &M, rows: u32, columns: u32, most: u32) -> bool
-    ensures { result ≡ few most rows columns (M.joined m.now) }
+// Whether each row is joined to at most `most` columns.
+pub fn joined_to_few<M: Incidence>(m: &M, most: u32) -> bool
+    ensures { result ≡ few most (M.height m.now) (M.breadth m.now) (M.joined m.now) }
 {
-    for a in 0..rows {
-        if count_joined(m, a, columns) > most {
-            return false;
-        }
-    }
-    true
+    (0..m.rows()).all(|a| count_joined(m, a) <= most as usize)
 }

@@ -6,7 +6,8 @@ ghost use Rattle.patterns.specs.Patterns.{fitting, added, toggled_all};
 ghost use Rattle.flips.specs.Flips.{remaining_after};
 
 use codes::code::{Code, Qubit};
-use codes::limits::MOST_WEIGHT;
+use codes::families::ByCheck;
+use matrices::families::Neighbours;
 use patterns::items::toggle;
 
 // Changes every check of qubit v.
@@ -15,11 +16,8 @@ pub(crate) fn toggle_checks<C: Code>(code: &C, remaining: &mut [u8], v: Qubit)
     requires fits { fitting (C.layout code.now).checks remaining.old ≡ true }
     ensures { remaining.new ≡ added (C.layout code.now).checks remaining.old (has ((C.layout code.now).checks_of v.0)) }
 {
-    for k in 0..MOST_WEIGHT {
-        let Some(u) = code.qubit_check(v, k) else {
-            break;
-        };
-        toggle(remaining, u.0);
+    for u in Neighbours::of(ByCheck { code }, v.0) {
+        toggle(remaining, u);
     }
 }
 

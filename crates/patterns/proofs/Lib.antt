@@ -3,6 +3,7 @@ pub mod Lists
 pub mod Bits
 pub mod Values
 pub mod Packed
+pub mod Ranges
 pub mod Added
 pub mod Toggled
 pub mod Weighed

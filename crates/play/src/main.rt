@@ -1,6 +1,7 @@
 // Plays a script of calls on a job: reads it on standard input, makes the calls one by one, and prints each answer and what the job holds after it.
 #![tactic(auto)]
 
+mod calls;
 mod hex;
 mod job;
 mod script;

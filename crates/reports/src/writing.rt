@@ -38,7 +38,7 @@ fn short_lines<C: Code>(code: &C, report: Report<'_>) -> ArrayVec<u8, MOST_SHORT
     lines.push(code.kind_letter());
     put_counts(code.qubits(), code.checks(), code.generators(), &mut lines);
     put(b"verdict ", &mut lines);
-    put(report.verdict.word(), &mut lines);
+    put(report.verdict.word().as_bytes(), &mut lines);
     put(b"\nmoves", &mut lines);
     put_counts(report.peels, report.prunes, report.flips, &mut lines);
     lines

@@ -1,80 +1,95 @@
--- One turn of each scan over the neighbours of a node, and its end. Assumes nothing.
-use Rattle.std.proofs.Common.{◌≡◌, ℕ, ◌+◌, ◌<◌, ◌≤◌, true, false, ◌&&◌, ◌||◌, ltb, List, [], ◌∷◌, ◌++◌, length, drop, is_some, Some, None, filter, Option, sym, refl, ap, ◌∙◌}
-use Rattle.std.specs.Option.{option_map, option_to_list}
-use Rattle.std.proofs.lemmas.List.{at_drop_more, at_drop_all}
-use Rattle.std.proofs.lemmas.Bool.{cond-true, cond-false, eq-eqb, ne_eqb, both_ways, lt-ltb, and_parts}
+-- What the neighbours of a node tell of a check or a generator. Assumes nothing.
+use Rattle.std.proofs.Common.{◌≡◌, ℕ, ◌+◌, ◌<◌, Bool, true, false, cond, not, ◌&&◌, ◌||◌, eqb, ltb, List, [], ◌∷◌, length, drop, is_some, is_none, Some, None, filter, Option, sym, refl, ap, ◌∙◌, arith}
+use Rattle.std.specs.Bool.{then_some}
+use Rattle.std.specs.List.{list_all, list_any}
+use Rattle.std.specs.Option.{option_map}
+use Rattle.std.proofs.lemmas.Iterator.{YieldsList}
+use Rattle.std.proofs.lemmas.Iterator.Consumers.{YieldsList-turn, YieldsList-end}
+use Rattle.std.proofs.lemmas.List.{at_drop_more}
+use Rattle.std.proofs.lemmas.Bool.{cond-true, lt-ltb, and_parts, both_ways}
 use Rattle.patterns.specs.Sets.{Set, has}
+use Rattle.matrices.specs.Relations.{neighbours}
 use Rattle.matrices.proofs.Lookups.{Found}
+use Rattle.codes.specs.declared.code.Qubit.{Qubit}
 use Rattle.codes.specs.Layouts.{Layout}
-use Rattle.scans.specs.Scans.{single, all_in, is_empty, none_in, meeting, only_one, held_by, all_held}
+use Rattle.scans.specs.Scans.{single, all_in, is_empty, none_in, meets, meeting, only_one, held_by, all_held}
 
 -- what is left of a list, from a place where a neighbour was told
 pub rest_at : {Y : Type 0} (F : List ℕ → Y) (row : List ℕ) (k v : ℕ) → Found row k v → F (drop k row) ≡ F (v ∷ drop (k + 1) row)
 rest_at F row k v f = at_drop_more F row k 0 f.here ∙ ap (λ x. F (x ∷ drop (k + 1) row)) f.is
 
--- ---- the one that is kept, with what was found so far
+-- ---- answers over the neighbours
 
-abbrev pub so_far : Set → List ℕ → Option ℕ → ℕ → Option ℕ
-so_far s row found k = single (option_to_list found ++ filter s (drop k row))
-
-module _ (s : Set) (row : List ℕ) (k v : ℕ) (f : Found row k v) where
-  in_set : (found : Option ℕ) → s v ≡ true → so_far s row found k ≡ single (option_to_list found ++ v ∷ filter s (drop (k + 1) row))
-  in_set found on = ap (λ l. single (option_to_list found ++ l)) (rest_at (filter s) row k v f ∙ cond-true (s v) (v ∷ filter s (drop (k + 1) row)) (filter s (drop (k + 1) row)) on)
-
-  -- the first
-  pub first_kept : (all : Option ℕ) → s v ≡ true → so_far s row None k ≡ all → so_far s row (Some v) (k + 1) ≡ all
-  first_kept all on e = sym (in_set None on) ∙ e
-
-  -- a second
-  pub second_kept : (w : ℕ) (all : Option ℕ) → s v ≡ true → so_far s row (Some w) k ≡ all → None ≡ all
-  second_kept w all on e = sym (in_set (Some w) on) ∙ e
-
-  pub none_kept : (found all : Option ℕ) → s v ≡ false → so_far s row found k ≡ all → so_far s row found (k + 1) ≡ all
-  none_kept found all off e =
-      sym (ap (λ l. single (option_to_list found ++ l)) (rest_at (filter s) row k v f ∙ cond-false (s v) (v ∷ filter s (drop (k + 1) row)) (filter s (drop (k + 1) row)) off)) ∙ e
-
-pub all_kept : (s : Set) (row : List ℕ) (k : ℕ) (found all : Option ℕ) → length row ≤ k → so_far s row found k ≡ all → found ≡ all
-all_kept s row k found all h e = sym (ap (λ l. single (option_to_list found ++ l)) (at_drop_all (filter s) row k h) ∙ alone found) ∙ e
+any_filter : (s : Set) (xs : List ℕ) → list_any s xs ≡ not (none_in s xs)
+any_filter s [] = refl
+any_filter s (x ∷ xs) = at (s x) (any_filter s xs)
   where
-    alone : (o : Option ℕ) → single (option_to_list o ++ []) ≡ o
-    alone None = refl
-    alone (Some x) = refl
+    at : (b : Bool) → list_any s xs ≡ not (none_in s xs) → (b || list_any s xs) ≡ not (is_empty (cond b (x ∷ filter s xs) (filter s xs)))
+    at true e = refl
+    at false e = e
 
--- what was found so far, by its number
-pub none_so_far : {X : Type 0} (f : X → ℕ) (o : Option X) → is_some o ≡ false → option_map f o ≡ None
-none_so_far f None e = refl
-none_so_far f (Some x) e = absurd (both_ways true e refl)
+-- whether some neighbour of the check is in the set
+pub any_meets : (c : Layout) (s : Set) (u : ℕ) → list_any s (neighbours c.checks c.of_check u) ≡ meets c s u
+any_meets c s u = at (ltb u c.checks)
+  where
+    at : (b : Bool) → list_any s (cond b (c.of_check u) []) ≡ (b && not (none_in s (c.of_check u)))
+    at true = any_filter s (c.of_check u)
+    at false = refl
 
-pub some_so_far : {X : Type 0} (f : X → ℕ) (o : Option X) → is_some o ≡ true → (w : ℕ) × (option_map f o ≡ Some w)
-some_so_far f None e = absurd (both_ways false refl e)
-some_so_far f (Some x) e = (f x, refl)
+-- the one of those in the set
+pub single_met : (c : Layout) (s : Set) (u : ℕ) → single (filter s (neighbours c.checks c.of_check u)) ≡ only_one c s u
+single_met c s u = at (ltb u c.checks)
+  where
+    at : (b : Bool) → single (filter s (cond b (c.of_check u) [])) ≡ cond b (single (meeting c s u)) None
+    at true = refl
+    at false = refl
 
--- ---- whether a number stands in the list
+-- ---- the one item that an iterator gives
 
-module _ (row : List ℕ) (k w v : ℕ) (f : Found row k w) where
-  pub has_found : w ≡ v → has (drop k row) v ≡ true
-  has_found e = rest_at (λ l. has l v) row k w f ∙ ap (λ b. b || has (drop (k + 1) row) v) (eq-eqb w v e)
+-- a qubit that is told if nothing else is
+pub lone : (b : Option ℕ) (none : Bool) (x : ℕ) → is_some b ≡ not none → option_map (λ (v : Qubit). v.0) (then_some none (record { 0 = x })) ≡ cond (is_none b) (Some x) None
+lone None true x e = refl
+lone None false x e = absurd (both_ways true (sym e) refl)
+lone (Some y) true x e = absurd (both_ways true e refl)
+lone (Some y) false x e = refl
 
-  pub has_further : (w ≡ v → ⊥) → has (drop k row) v ≡ has (drop (k + 1) row) v
-  has_further ne = rest_at (λ l. has l v) row k w f ∙ ap (λ b. b || has (drop (k + 1) row) v) (ne_eqb w v ne)
+more_than_one : (l : List ℕ) → 1 < length l → None ≡ single l
+more_than_one [] h = absurd (omega arith)
+more_than_one (a ∷ []) h = absurd (omega arith)
+more_than_one (a ∷ b ∷ l) h = refl
 
--- ---- whether all are in a set
+module _ {S : Type 0} {steps : S → Option ℕ → S → Type 0} {s t : S} {all : List ℕ} (gives : YieldsList steps (λ x. x) s all) where
+  pub given_none : steps s None t → None ≡ single all
+  given_none first = ap single (YieldsList-end gives [] s refl None t refl first).0
 
-module _ (s : Set) (row : List ℕ) (k v : ℕ) (f : Found row k v) where
-  pub not_all : s v ≡ false → all_in s (drop k row) ≡ false
-  not_all off = rest_at (all_in s) row k v f ∙ ap (λ b. b && all_in s (drop (k + 1) row)) off
+  -- the first answer, where the second is none
+  pub given_one : {u : S} (x : ℕ) → steps s (Some x) t → (b : Option ℕ) → steps t b u → cond (is_none b) (Some x) None ≡ single all
+  given_one {u} x first None then = ap single (YieldsList-end gives (x ∷ []) t (t, first, refl) None u refl then).0
+  given_one {u} x first (Some y) then = more_than_one all (YieldsList-turn gives (x ∷ []) t (t, first, refl) (Some y) u y refl then).0
 
-  pub all_further : s v ≡ true → all_in s (drop k row) ≡ all_in s (drop (k + 1) row)
-  all_further on = rest_at (all_in s) row k v f ∙ ap (λ b. b && all_in s (drop (k + 1) row)) on
+any_has : (xs : List ℕ) (v : ℕ) → list_any (λ x. eqb x v) xs ≡ has xs v
+any_has [] v = refl
+any_has (x ∷ xs) v = ap (λ b. eqb x v || b) (any_has xs v)
 
--- ---- whether none is in a set
+-- whether some neighbour of the generator is the qubit
+pub any_held : (c : Layout) (g v : ℕ) → list_any (λ w. eqb w v) (neighbours c.generators c.of_generator g) ≡ held_by c g v
+any_held c g v = at (ltb g c.generators)
+  where
+    at : (b : Bool) → list_any (λ w. eqb w v) (cond b (c.of_generator g) []) ≡ (b && has (c.of_generator g) v)
+    at true = any_has (c.of_generator g) v
+    at false = refl
 
-module _ (s : Set) (row : List ℕ) (k v : ℕ) (f : Found row k v) where
-  pub not_none : s v ≡ true → none_in s (drop k row) ≡ false
-  not_none on = rest_at (none_in s) row k v f ∙ ap is_empty (cond-true (s v) (v ∷ filter s (drop (k + 1) row)) (filter s (drop (k + 1) row)) on)
+all_all : (s : Set) (xs : List ℕ) → list_all s xs ≡ all_in s xs
+all_all s [] = refl
+all_all s (x ∷ xs) = ap (λ b. s x && b) (all_all s xs)
 
-  pub none_further : s v ≡ false → none_in s (drop k row) ≡ none_in s (drop (k + 1) row)
-  none_further off = rest_at (none_in s) row k v f ∙ ap is_empty (cond-false (s v) (v ∷ filter s (drop (k + 1) row)) (filter s (drop (k + 1) row)) off)
+-- whether all neighbours of a generator that there is are in the set
+pub all_met : (c : Layout) (s : Set) (g : ℕ) → g < c.generators → list_all s (neighbours c.generators c.of_generator g) ≡ all_held c s g
+all_met c s g h = at (ltb g c.generators) (lt-ltb g c.generators h)
+  where
+    at : (b : Bool) → b ≡ true → list_all s (cond b (c.of_generator g) []) ≡ (b && all_in s (c.of_generator g))
+    at true e = all_all s (c.of_generator g)
+    at false e = absurd (both_ways true (sym e) refl)
 
 -- ---- nodes that there are
 

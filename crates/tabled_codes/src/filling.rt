@@ -4,9 +4,9 @@ ghost use Rattle.refusals.specs.declared.Refusal.TheVariants.{OutOfMemory};
 ghost use Rattle.codes.specs.Layouts.{most_qubits, most_weight};
 ghost use Rattle.tabled_codes.specs.Rows.{Light, sizes_of, places_of};
 
-use crate::families::Family;
 use crate::table::Table;
 use codes::limits::MOST_WEIGHT;
+use matrices::families::Family;
 use refusals::Refusal;
 use std::alloc::Global;
 

@@ -3,10 +3,10 @@ ghost use Rattle.std.specs.Prelude.{◌≡◌, MatchResult};
 ghost use Rattle.refusals.specs.declared.Refusal.TheVariants.{OutOfMemory};
 ghost use Rattle.tabled_codes.specs.Held.{layout_of};
 
-use crate::families::{ByCheck, ByGenerator, Checks, Generators};
 use crate::filling::write_table;
 use crate::tables::Tables;
 use codes::code::Code;
+use codes::families::{ByCheck, ByGenerator, Checks, Generators};
 use refusals::Refusal;
 use std::alloc::Global;
 

@@ -1,35 +1,31 @@
--- Overlaps counted column by column, and what they say of lists. Assumes nothing.
-use Rattle.std.proofs.Common.{◌≡◌, ℕ, ◌+◌, ◌<◌, Bool, true, false, not, ◌&&◌, List, [], ◌∷◌, length, sym, refl, ap, ◌∙◌, ap₂, append-nil, arith}
+-- Overlaps that are counted, and what they say of lists. Assumes nothing.
+use Rattle.std.proofs.Common.{◌≡◌, ℕ, ◌+◌, ◌%◌, ◌<◌, Bool, true, false, cond, not, eqb, ◌&&◌, List, [], ◌∷◌, length, filter, sym, refl, ap, ◌∙◌, ap₂, arith}
+use Rattle.std.proofs.Math.Numerals.{add-one}
 use Rattle.std.proofs.lemmas.Bool.{lt-ltb}
+use Rattle.std.proofs.lemmas.Bool.Decides.{nat_tests}
 use Rattle.patterns.specs.Sets.{Set, ◌⊕◌, has, parity, members, all_below}
-use Rattle.patterns.proofs.Sums.{plus_zero}
-use Rattle.patterns.proofs.Lists.{members_more, has_members, members_within, parity_append, parity_same, all_below_at, all_below_from}
+use Rattle.patterns.proofs.Lists.{has_members, members_within, parity_same, all_below_at, all_below_from}
 use Rattle.matrices.specs.Relations.{listed, tabled}
 use Rattle.matrices.specs.Rows.{entry}
 use Rattle.matrices.proofs.Tables.{length_tabled, listed_tabled}
 use Rattle.written_codes.specs.Listing.{all_even}
 use Rattle.written_codes.specs.Writing.{shares_even}
 
-not_plus_one : (b : Bool) → not (b ⊕ true) ≡ not (not b)
-not_plus_one true = refl
-not_plus_one false = refl
+next_even : (n : ℕ) → eqb ((n + 1) % 2) 0 ≡ not (eqb (n % 2) 0)
+next_even n = grind (arith, nat_tests)
 
-module _ (s t : Set) (v : ℕ) (even : Bool) (before : even ≡ not (parity s (members v t))) where
-  -- a column in both
-  pub overlap_more : t v ≡ true → s v ≡ true → not even ≡ not (parity s (members (v + 1) t))
-  overlap_more on too =
-      ap not before
-      ∙ sym (ap not (ap (parity s) (members_more v t true on) ∙ parity_append s (members v t) (v ∷ []) ∙ ap (λ b. parity s (members v t) ⊕ b) (plus_zero (s v) ∙ too)) ∙ not_plus_one (parity s (members v t)))
+-- an even number of the list's places hold an item of the set when an even number pass
+pub even_count : (s : Set) (xs : List ℕ) → eqb (length (filter s xs) % 2) 0 ≡ not (parity s xs)
+even_count s [] = refl
+even_count s (x ∷ xs) = at (s x) (even_count s xs)
+  where
+    turned : (p : Bool) → not (not p) ≡ not (true ⊕ p)
+    turned true = refl
+    turned false = refl
 
-  -- one that the first has, and the second has not
-  pub overlap_first : t v ≡ true → s v ≡ false → even ≡ not (parity s (members (v + 1) t))
-  overlap_first on off =
-      before
-      ∙ sym (ap not (ap (parity s) (members_more v t true on) ∙ parity_append s (members v t) (v ∷ []) ∙ ap (λ b. parity s (members v t) ⊕ b) (plus_zero (s v) ∙ off) ∙ plus_zero (parity s (members v t))))
-
-  -- one that the first has not
-  pub overlap_none : t v ≡ false → even ≡ not (parity s (members (v + 1) t))
-  overlap_none off = before ∙ sym (ap not (ap (parity s) (members_more v t false off ∙ append-nil (members v t))))
+    at : (b : Bool) → eqb (length (filter s xs) % 2) 0 ≡ not (parity s xs) → eqb (length (cond b (x ∷ filter s xs) (filter s xs)) % 2) 0 ≡ not (b ⊕ parity s xs)
+    at true e = ap (λ n. eqb (n % 2) 0) (sym (add-one (length (filter s xs)))) ∙ next_even (length (filter s xs)) ∙ ap not e ∙ turned (parity s xs)
+    at false e = e
 
 -- even overlaps of rows are even overlaps of their lists
 pub even_tabled : (n m k : ℕ) (checks generators : List ℕ)

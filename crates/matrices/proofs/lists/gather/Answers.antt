@@ -1,22 +1,19 @@
-use Rattle.std.proofs.Common.{true, false, [], ◌∷◌, vec_items, sym, ap, ◌∙◌, append-nil}
-use Rattle.std.proofs.lemmas.Slice.{pushed}
-use Rattle.patterns.specs.Sets.{members}
-use Rattle.patterns.proofs.Lists.{members_more}
+use Rattle.std.proofs.Common.{rules, tests, ◌≡◌, ℕ, Ok, List, length, filter, ap, ◌∙◌, arith}
+use Rattle.std.specs.List.{range_with_len}
+use Rattle.std.proofs.lemmas.Iterator.{items_from_collect}
+use Rattle.std.proofs.lemmas.Iterator.Consumers.{YieldsList-at, YieldsList-from_filter}
+use Rattle.std.proofs.lemmas.List.FromFn.{length-range_with_len}
+use Rattle.std.proofs.lemmas.List.Sums.{length-filter, count_by-le-length}
+use Rattle.patterns.proofs.Ranges.{numbers_below, filter_members}
 use Rattle.matrices.proofs.lists.gather.Goals as goal
-use Rattle.matrices.proofs.lists.gather.Goals.{then-joins+in_ok-push, else-joins}
 
-pub loop-b-preserved : goal.loop-b-preserved
-loop-b-preserved g c =
+pub returns : goal.returns
+returns g c =
+    let n = g.M.Incidence.breadth c.args.m.now in
     let s = g.M.Incidence.joined c.args.m.now c.args.a in
-    let b = c.loop-b.b in
-    elim c.if-joins.branch [
-      | then-joins+in_ok-push w ↦
-          ap vec_items w.list-is
-          ∙ pushed (b ∷ []) c.loop-b.invariant w.in_ok-push.was w.push.ensures.items
-          ∙ sym (members_more b s true (sym c.joins.ensures ∙ w.if-joins.true))
-      | else-joins w ↦
-          ap vec_items w.list-is
-          ∙ c.loop-b.invariant
-          ∙ sym (append-nil (members b s))
-          ∙ sym (members_more b s false (sym c.joins.ensures ∙ w.if-joins.false))
-    ]
+    let all = range_with_len 0 n in
+    let is : c.in_ok-list.list.items ≡ filter s all = items_from_collect {E = ℕ} (Ok c.in_ok-list.list) c.in_ok-list.ensures.ran
+    (YieldsList-from_filter _ s (YieldsList-at c.filter.ensures.source (numbers_below n (cc))) c.filter.ensures.closure (λ x b q k. search (rules, tests))) in (
+      is ∙ filter_members n s,
+      omega (arith, ap length is, length-filter s all, count_by-le-length s all, length-range_with_len 0 n, c.columns.ensures),
+    )

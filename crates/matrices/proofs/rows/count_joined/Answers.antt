@@ -1,12 +1,12 @@
-use Rattle.std.proofs.Common.{true, false, sym, ◌∙◌, arith}
-use Rattle.patterns.proofs.Weighed.{tally_more}
+use Rattle.std.proofs.Common.{rules, tests, ◌∙◌}
+use Rattle.std.proofs.lemmas.Iterator.Consumers.{YieldsList-at, YieldsList-from_filter, count_from_yields_List}
+use Rattle.patterns.proofs.Ranges.{numbers_below, length_tally}
 use Rattle.matrices.proofs.rows.count_joined.Goals as goal
-use Rattle.matrices.proofs.rows.count_joined.Goals.{then-joins, else-joins}
 
-pub loop-b-preserved : goal.loop-b-preserved
-loop-b-preserved g c =
+pub returns : goal.returns
+returns g c =
+    let n = g.M.Incidence.breadth c.args.m.now in
     let s = g.M.Incidence.joined c.args.m.now c.args.a in
-    elim c.if-joins.branch [
-      | then-joins w ↦ let t = tally_more c.loop-b.b s true (sym c.joins.ensures ∙ w.if-joins.true) in omega (arith, t, w.count-is)
-      | else-joins w ↦ let t = tally_more c.loop-b.b s false (sym c.joins.ensures ∙ w.if-joins.false) in omega (arith, t, w.count-is)
-    ]
+    count_from_yields_List c.filter.result c.count.result c.count.ensures.ran
+    (YieldsList-from_filter _ s (YieldsList-at c.filter.ensures.source (numbers_below n (cc))) c.filter.ensures.closure (λ x b q k. search (rules, tests)))
+    ∙ length_tally n s

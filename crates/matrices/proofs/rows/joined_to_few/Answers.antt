@@ -1,15 +1,12 @@
-use Rattle.std.proofs.Common.{leb, sym, arith}
-use Rattle.std.proofs.lemmas.Bool.{le-leb, lt-leb}
+use Rattle.std.proofs.Common.{rules, tests, leb, ◌∙◌}
+use Rattle.std.proofs.lemmas.Iterator.Search.{all_from_yields_List}
 use Rattle.patterns.specs.Sets.{tally}
-use Rattle.patterns.proofs.Lists.{all_below_more, all_below_fails}
+use Rattle.patterns.proofs.Ranges.{numbers_below, list_all_below}
 use Rattle.matrices.proofs.rows.joined_to_few.Goals as goal
 
-pub returns-then-count_joined-most : goal.returns-then-count_joined-most
-returns-then-count_joined-most g c =
-    let s = g.M.Incidence.joined c.args.m.now in
-    sym (all_below_fails c.args.rows (λ u. leb (tally c.args.columns (s u)) c.args.most) c.loop-a.a (omega arith) (lt-leb (tally c.args.columns (s c.loop-a.a)) c.args.most (omega arith)))
-
-pub loop-a-preserved : goal.loop-a-preserved
-loop-a-preserved g c =
-    let s = g.M.Incidence.joined c.args.m.now in
-    all_below_more c.loop-a.a (λ u. leb (tally c.args.columns (s u)) c.args.most) c.loop-a.invariant (le-leb (tally c.args.columns (s c.loop-a.a)) c.args.most (omega arith))
+pub returns : goal.returns
+returns g c =
+    let m = g.M.Incidence.height c.args.m.now in
+    let few = λ (u : _). leb (tally (g.M.Incidence.breadth c.args.m.now) (g.M.Incidence.joined c.args.m.now u)) c.args.most in
+    all_from_yields_List few _ _ c.all.result c.all.ensures.ran (numbers_below m (cc)) (λ x b q k. search (rules, tests))
+    ∙ list_all_below m few

@@ -1,8 +1,9 @@
-use Rattle.std.proofs.Common.{◌+◌, ◌%◌, Some, vec_items, ap, ◌∙◌, arith}
-use Rattle.graphs.specs.Shifts.{size_mapped}
+use Rattle.std.proofs.Common.{◌+◌, ◌%◌, cond, ltb, Some, None, vec_items, sym, ap, ◌∙◌}
+use Rattle.std.proofs.lemmas.List.{length-map}
 use Rattle.graphs.proofs.cyclic.CyclicGraph.check_degree.Goals as goal
 
 pub returns : goal.returns
 returns c =
     let g = c.args.self.now in
-    ap Some (c.len.ensures ∙ g.shifts.ok.0) ∙ size_mapped g.count (λ p s. (p + s) % g.count) (vec_items g.shifts) c.args.p.0 (omega arith)
+    let p = c.args.p.0 in
+    c.degree.ensures ∙ ap (λ k. cond (ltb p g.count) (Some k) None) (sym (length-map (vec_items g.shifts) (λ s. (p + s) % g.count)))

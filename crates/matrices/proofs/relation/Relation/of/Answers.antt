@@ -7,7 +7,7 @@ pub invariant_of-result : goal.invariant_of-result
 invariant_of-result c =
     let n = c.args.matrix.columns in
     let bytes = c.args.matrix.bytes.now in
-    let m = c.args.count in
+    let m = c.args.matrix.rows in
     let rows = lists c.in_ok-rows.rows.nodes in
     let columns = lists c.in_ok-columns.columns.nodes in
     let r = c.in_ok-rows.ensures in
