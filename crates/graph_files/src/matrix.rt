@@ -7,6 +7,7 @@ ghost use Rattle.graph_files.specs.Listed.{listed_graph};
 ghost use Rattle.graph_files.specs.Built.{wired_listed};
 
 use graphs::graph::{CheckNode, Graph, VariableNode};
+use matrices::families::Family;
 use matrices::relation::Relation;
 
 #[derive(Drop)]
@@ -26,21 +27,19 @@ impl Graph for Matrix {
         wired_listed (lists r.rows.nodes) (lists r.columns.nodes) r.by_row r.by_column g.checks_in_range g.variables_in_range g.few_variables g.few_checks };
 
     fn variables(&self) -> u32 {
-        self.relation.columns.count() as u32
+        self.relation.columns.count()
     }
 
     fn checks(&self) -> u32 {
-        self.relation.rows.count() as u32
+        self.relation.rows.count()
     }
 
     fn variable_degree(&self, v: VariableNode) -> Option<u32> {
-        let size = self.relation.columns.size(v.0)?;
-        Some(size as u32)
+        self.relation.columns.size(v.0)
     }
 
     fn check_degree(&self, p: CheckNode) -> Option<u32> {
-        let size = self.relation.rows.size(p.0)?;
-        Some(size as u32)
+        self.relation.rows.size(p.0)
     }
 
     fn variable_neighbour(&self, v: VariableNode, k: u32) -> Option<CheckNode> {
