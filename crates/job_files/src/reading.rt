@@ -11,7 +11,8 @@ ghost use Rattle.job_files.specs.Files.{side_in, graph_size, head_questions, che
 
 use crate::faults::Fault;
 use crate::parts::{JobFile, Part, Side};
-use graph_files::reading::{AskedGraph, ask_graph, read_graph};
+use graph_files::reading::{ask_graph, read_graph};
+use matrices::rows::BitRows;
 use patterns::shapes::{unused_are_zero, width};
 use refusals::Refusal;
 use std::alloc::Global;
@@ -27,7 +28,7 @@ struct Head<'a> {
     graph: Part<'a>,
 }
 
-// How many checks and how many qubits the product of a graph with itself has.
+// How many checks and how many qubits a code has.
 #[derive(Clone, Copy)]
 struct Sizes {
     checks: u32,
@@ -67,14 +68,15 @@ fn read_head<'a>(file: &'a [u8]) -> Result<Head<'a>, Refusal>
 }
 
 impl Sizes {
-    fn of_product(graph: AskedGraph<'_>) -> Sizes
-        requires variables_le_most_nodes { graph.matrix.columns ≤ most_nodes }
-        requires checks_le_most_nodes { graph.checks ≤ most_nodes }
-        ensures checks { result.checks ≡ checks_of graph.entry.matrix.columns graph.entry.checks }
-        ensures qubits { result.qubits ≡ qubits_of graph.entry.matrix.columns graph.entry.checks }
+    // Of the product of a graph with itself: the columns of its matrix are the variables, and the rows are the checks.
+    fn of_product(graph: BitRows<'_>) -> Sizes
+        requires variables_le_most_nodes { graph.columns ≤ most_nodes }
+        requires checks_le_most_nodes { graph.rows ≤ most_nodes }
+        ensures checks { result.checks ≡ checks_of graph.entry.columns graph.entry.rows }
+        ensures qubits { result.qubits ≡ qubits_of graph.entry.columns graph.entry.rows }
     {
-        let variables = graph.matrix.columns;
-        let checks = graph.checks;
+        let variables = graph.columns;
+        let checks = graph.rows;
         Sizes {
             checks: variables * checks,
             qubits: variables * variables + checks * checks,
@@ -111,7 +113,7 @@ pub fn read_job<'a>(heap: Global, file: &'a [u8]) -> Result<JobFile<'a>, Fault>
     let head = read_head(file).map_err(Fault::Job)?;
     let asked = ask_graph(head.graph.bytes)?;
     let at = HEAD + head.graph.bytes.len();
-    let patterns = read_patterns(file, at, Sizes::of_product(asked)).map_err(Fault::Job)?;
+    let patterns = read_patterns(file, at, Sizes::of_product(asked.matrix)).map_err(Fault::Job)?;
     let graph = read_graph(heap, head.graph.bytes)?;
     Ok(JobFile {
         side: head.side,

@@ -7,11 +7,12 @@ use arrayvec::ArrayVec;
 use itoa::Buffer;
 use patterns::hex::write_hex;
 
-pub(crate) fn put<const N: usize>(text: &[u8], lines: &mut ArrayVec<u8, N>)
+// The text, for which there is room.
+pub(crate) fn put<const N: usize>(text: &str, lines: &mut ArrayVec<u8, N>)
     requires { array_vec_len lines.old + length text.now ≤ N }
     ensures { lines.new.items ≡ lines.old.items ++ text.now }
 {
-    let _fits = lines.try_extend_from_slice(text);
+    let _fits = lines.try_extend_from_slice(text.as_bytes());
 }
 
 // A space and the count in decimal.
@@ -22,7 +23,7 @@ pub(crate) fn put_count<const N: usize>(count: u32, lines: &mut ArrayVec<u8, N>)
 {
     let mut digits = Buffer::new();
     lines.push(b' ');
-    put(digits.format(count).as_bytes(), lines);
+    put(digits.format(count), lines);
 }
 
 // Three counts, and the end of the line.
@@ -45,7 +46,7 @@ pub(crate) fn put_counts<const N: usize>(
 // A line of a word, which ends with a space, and the bytes of a pattern.
 #[derive(Clone, Copy)]
 pub(crate) struct PatternLine<'a> {
-    pub(crate) word: &'a [u8],
+    pub(crate) word: &'a str,
     pub(crate) bytes: &'a [u8],
 }
 
@@ -65,7 +66,7 @@ impl<'a> PatternLine<'a> {
         ensures { out.new ≡ line_text self.entry }
     {
         let (start, rest) = out.split_at_mut(self.word.len());
-        start.copy_from_slice(self.word);
+        start.copy_from_slice(self.word.as_bytes());
         let (digits, end) = rest.split_at_mut(2 * self.bytes.len());
         let _ = write_hex(self.bytes, digits);
         end.copy_from_slice(b"\n");

@@ -15,7 +15,7 @@ fn refusal_line(fault: Fault) -> ArrayVec<u8, MOST_LINE>
     ensures { result.items ≡ refusal_line fault }
 {
     let mut line = ArrayVec::new();
-    put(b"refused ", &mut line);
+    put("refused ", &mut line);
     put(fault.layer(), &mut line);
     put_count(u32::from(fault.refusal().number()), &mut line);
     line.push(b'\n');

@@ -34,12 +34,12 @@ fn short_lines<C: Code>(code: &C, report: Report<'_>) -> ArrayVec<u8, MOST_SHORT
     ensures { result.items ≡ short_lines (told C.symbol (C.layout code.now) report.entry) }
 {
     let mut lines = ArrayVec::new();
-    put(b"code ", &mut lines);
+    put("code ", &mut lines);
     lines.push(code.kind_letter());
     put_counts(code.qubits(), code.checks(), code.generators(), &mut lines);
-    put(b"verdict ", &mut lines);
-    put(report.verdict.word().as_bytes(), &mut lines);
-    put(b"\nmoves", &mut lines);
+    put("verdict ", &mut lines);
+    put(report.verdict.word(), &mut lines);
+    put("\nmoves", &mut lines);
     put_counts(report.peels, report.prunes, report.flips, &mut lines);
     lines
 }
@@ -67,11 +67,11 @@ fn write_lines<C: Code>(code: &C, report: Report<'_>, out: &mut [u8]) -> Result<
 {
     let short = short_lines(code, report);
     let fix = PatternLine {
-        word: b"fix ",
+        word: "fix ",
         bytes: report.correction,
     };
     let opened = PatternLine {
-        word: b"open ",
+        word: "open ",
         bytes: report.opened,
     };
     let size = short.len() + fix.size() + opened.size();
