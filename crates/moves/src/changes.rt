@@ -1,6 +1,6 @@
 // Changes of a pattern, and of the remaining syndrome.
 ghost use Rattle.std.specs.Prelude.{◌≡◌, ◌<◌, true};
-ghost use Rattle.std.specs.List.{AllByRecursion};
+ghost use Rattle.std.specs.List.{All};
 ghost use Rattle.patterns.specs.Sets.{has, Apart};
 ghost use Rattle.patterns.specs.Patterns.{fitting, added, toggled_all};
 ghost use Rattle.flips.specs.Flips.{remaining_after};
@@ -33,7 +33,7 @@ pub(crate) fn toggle_all(bits: &mut [u8], items: &[u32])
 // Changes every check that holds an odd number of the qubits.
 pub(crate) fn toggle_syndrome<C: Code>(code: &C, remaining: &mut [u8], qubits: &[u32])
     requires fits { fitting (C.layout code.now).checks remaining.old ≡ true }
-    requires in_range { AllByRecursion (λ v. v < (C.layout code.now).qubits) qubits.now }
+    requires in_range { All (λ v. v < (C.layout code.now).qubits) qubits.now }
     requires apart { Apart qubits.now }
     ensures { remaining.new ≡ remaining_after (C.layout code.now) remaining.old qubits.now }
 {

@@ -4,6 +4,7 @@ use Rattle.refusals.specs.Questions.{first_no}
 use Rattle.refusals.proofs.Asking.{first_no_front, answer_ok, answer_err}
 use Rattle.matrices.proofs.Lookups.{size_within}
 use Rattle.scans.proofs.Scanning.{held_has, held_all}
+use Rattle.patterns.specs.Patterns.{member}
 use Rattle.moves.specs.Jobs.{pattern_questions, counted, closed}
 use Rattle.moves.specs.Moves.{prune_questions}
 use Rattle.moves.specs.Held.{model}
