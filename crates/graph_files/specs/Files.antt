@@ -7,7 +7,7 @@ use Rattle.refusals.specs.Questions.{Question, first_no}
 use Rattle.patterns.specs.Sets.{has}
 use Rattle.patterns.specs.Patterns.{pattern}
 use Rattle.matrices.specs.Relations.{tabled}
-use Rattle.matrices.specs.Rows.{entry, turned_entry, just_rows, tidy_rows, few}
+use Rattle.matrices.specs.Rows.{entry, turned_entry, just_rows, tidy_rows, sparse}
 use Rattle.graphs.specs.Tanners.{Tanner, Same, counted, most_neighbours}
 use Rattle.graph_files.specs.Listed.{listed_graph}
 
@@ -45,7 +45,7 @@ abbrev pub row_questions : ℕ → ℕ → List ℕ → List Question
 row_questions m n rows =
     (just_rows m n rows, WrongLength)
     ∷ (tidy_rows m n rows, UnusedBitSet)
-    ∷ (few most_neighbours m n (entry n rows) && few most_neighbours n m (turned_entry n rows), DegreeOutOfRange)
+    ∷ (sparse most_neighbours m n rows, DegreeOutOfRange)
     ∷ []
 
 -- which question the file answers with no

@@ -5,4 +5,4 @@ use Rattle.graph_files.specs.declared.matrix.Matrix.{Matrix}
 use Rattle.graph_files.specs.Listed.{listed_graph}
 
 abbrev pub graph_of : Matrix → Tanner
-graph_of g = listed_graph (lists g.relation.rows.nodes) (lists g.relation.columns.nodes)
+graph_of g = listed_graph (lists g.edges.relation.rows.nodes) (lists g.edges.relation.columns.nodes)

@@ -10,7 +10,8 @@ ghost use Rattle.graph_files.specs.Files.{variables_in, checks_in, rows_in, head
 use crate::matrix::Matrix;
 use graphs::limits::{MOST_NEIGHBOURS, in_range};
 use matrices::relation::Relation;
-use matrices::rows::{BitColumns, BitRows, joined_to_few};
+use matrices::rows::BitRows;
+use matrices::sparse::Sparse;
 use refusals::Refusal;
 use std::alloc::Global;
 
@@ -65,9 +66,7 @@ fn ask_rows(matrix: BitRows<'_>) -> Result<(), Refusal>
     if !matrix.unused_are_zero() {
         return Err(Refusal::UnusedBitSet);
     }
-    if !joined_to_few(&matrix, MOST_NEIGHBOURS)
-        || !joined_to_few(&BitColumns { matrix }, MOST_NEIGHBOURS)
-    {
+    if !matrix.is_sparse(MOST_NEIGHBOURS) {
         return Err(Refusal::DegreeOutOfRange);
     }
     Ok(())
@@ -79,7 +78,8 @@ impl<'a> AskedGraph<'a> {
         ensures { MatchResult result (λ g. graph_of g ≡ rows_graph self.entry.matrix.rows self.entry.matrix.columns self.entry.matrix.bytes.now) (λ e. e ≡ OutOfMemory) }
     {
         let relation = Relation::of(heap, self.matrix)?;
-        Ok(Matrix { relation })
+        let edges = Sparse { relation };
+        Ok(Matrix { edges })
     }
 }
 

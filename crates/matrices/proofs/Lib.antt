@@ -1,3 +1,4 @@
+pub mod Both
 pub mod Cuts
 pub mod Lookups
 pub mod Tables

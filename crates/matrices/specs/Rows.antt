@@ -1,5 +1,5 @@
 -- A matrix of bits: rows that are patterns over the columns, one after another in bytes. Assumes nothing.
-use Rattle.std.specs.Prelude.{ℕ, ◌*◌, Bool, List, length, take, drop, ◌==◌, nat_le}
+use Rattle.std.specs.Prelude.{ℕ, ◌*◌, Bool, ◌&&◌, List, length, take, drop, ◌==◌, nat_le}
 use Rattle.patterns.specs.Sets.{Set, all_below, tally}
 use Rattle.patterns.specs.Patterns.{width, member, tidy}
 
@@ -26,3 +26,7 @@ tidy_rows m n bytes = all_below m (λ u. tidy n (row n bytes u))
 -- whether each of m rows has at most `most` of n columns
 abbrev pub few : ℕ → ℕ → ℕ → (ℕ → Set) → Bool
 few most m n joined = all_below m (λ u. nat_le (tally n (joined u)) most)
+
+-- whether each of m rows and each of n columns has at most `most` ones
+abbrev pub sparse : ℕ → ℕ → ℕ → List ℕ → Bool
+sparse most m n bytes = few most m n (entry n bytes) && few most n m (turned_entry n bytes)

@@ -5,3 +5,4 @@ pub mod families;
 pub mod lists;
 pub mod relation;
 pub mod rows;
+pub mod sparse;

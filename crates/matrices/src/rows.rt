@@ -1,7 +1,7 @@
 // A matrix of bits: rows that are patterns over the columns, one after another in the caller's bytes.
 ghost use Rattle.std.specs.Prelude.{◌≡◌, ℕ};
 ghost use Rattle.patterns.specs.Sets.{Set, tally};
-ghost use Rattle.matrices.specs.Rows.{row, entry, turned_entry, just_rows, tidy_rows, few};
+ghost use Rattle.matrices.specs.Rows.{row, entry, turned_entry, just_rows, tidy_rows, few, sparse};
 
 use patterns::items::contains;
 use patterns::shapes::{unused_are_zero, width};
@@ -57,6 +57,13 @@ impl<'a> BitRows<'a> {
         ensures { result ≡ tidy_rows self.now.rows self.now.columns self.now.bytes.now }
     {
         (0..self.rows).all(|u| unused_are_zero(self.row(u), self.columns))
+    }
+
+    // Whether each row and each column has at most `most` ones.
+    pub fn is_sparse(&self, most: u32) -> bool
+        ensures { result ≡ sparse most self.now.rows self.now.columns self.now.bytes.now }
+    {
+        joined_to_few(self, most) && joined_to_few(&BitColumns { matrix: *self }, most)
     }
 }
 

@@ -2,31 +2,12 @@
 use Rattle.std.proofs.Common.{◌≡◌, ℕ, true, ◌&&◌, List, length, ap, ◌∙◌, ap₂}
 use Rattle.std.proofs.lemmas.Bool.{and_parts}
 use Rattle.refusals.proofs.Asking.{Yes}
-use Rattle.matrices.specs.Relations.{tabled, short}
-use Rattle.matrices.specs.Rows.{entry, turned_entry, few}
-use Rattle.matrices.proofs.Tables.{length_tabled, short_tabled}
-use Rattle.codes.specs.Layouts.{most_weight}
+use Rattle.matrices.specs.Relations.{tabled}
+use Rattle.matrices.specs.Rows.{entry, turned_entry}
+use Rattle.matrices.proofs.Both.{Both, row_count, column_count}
 use Rattle.written_codes.specs.Listing.{listed_code, most_written_qubits, most_written_rows, within, all_even}
 use Rattle.written_codes.specs.Writing.{light, written_questions, written_code}
 use Rattle.written_codes.proofs.Overlaps.{even_tabled}
-
--- the lists of a matrix, from both sides
-pub record Both (m n : ℕ) (bytes : List ℕ) (rows columns : List (List ℕ)) : Type 0 where
-  pub rows_are : rows ≡ tabled m n (entry n bytes)
-  pub columns_are : columns ≡ tabled n m (turned_entry n bytes)
-
-module _ {m n : ℕ} {bytes : List ℕ} {rows columns : List (List ℕ)} (both : Both m n bytes rows columns) where
-  pub row_count : length rows ≡ m
-  row_count = ap length both.rows_are ∙ length_tabled m n (entry n bytes)
-
-  pub column_count : length columns ≡ n
-  column_count = ap length both.columns_are ∙ length_tabled n m (turned_entry n bytes)
-
-  pub short_rows : light m n bytes ≡ true → short most_weight rows ≡ true
-  short_rows h = ap (short most_weight) both.rows_are ∙ short_tabled most_weight m n (entry n bytes) (and_parts (few most_weight m n (entry n bytes)) (few most_weight n m (turned_entry n bytes)) h).0
-
-  pub short_columns : light m n bytes ≡ true → short most_weight columns ≡ true
-  short_columns h = ap (short most_weight) both.columns_are ∙ short_tabled most_weight n m (turned_entry n bytes) (and_parts (few most_weight m n (entry n bytes)) (few most_weight n m (turned_entry n bytes)) h).1
 
 module _ {n m k : ℕ} {checks generators : List ℕ} {c by-c g by-g : List (List ℕ)} (of-checks : Both m n checks c by-c) (of-generators : Both k n generators g by-g) where
   pub code_made : listed_code c by-c g by-g ≡ written_code n m k checks generators

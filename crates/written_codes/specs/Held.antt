@@ -5,4 +5,4 @@ use Rattle.written_codes.specs.declared.written.Written.{Written}
 use Rattle.written_codes.specs.Listing.{listed_code}
 
 abbrev pub code_of : Written → Layout
-code_of w = listed_code (lists w.checks.rows.nodes) (lists w.checks.columns.nodes) (lists w.generators.rows.nodes) (lists w.generators.columns.nodes)
+code_of w = listed_code (lists w.checks.relation.rows.nodes) (lists w.checks.relation.columns.nodes) (lists w.generators.relation.rows.nodes) (lists w.generators.relation.columns.nodes)

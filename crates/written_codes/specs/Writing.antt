@@ -5,13 +5,13 @@ use Rattle.refusals.specs.declared.Refusal.TheVariants.{CountOutOfRange, WrongLe
 use Rattle.refusals.specs.Questions.{Question, first_no}
 use Rattle.patterns.specs.Sets.{parity, members, all_below}
 use Rattle.matrices.specs.Relations.{tabled}
-use Rattle.matrices.specs.Rows.{entry, turned_entry, just_rows, tidy_rows, few}
+use Rattle.matrices.specs.Rows.{entry, turned_entry, just_rows, tidy_rows, sparse}
 use Rattle.codes.specs.Layouts.{Layout, most_weight}
 use Rattle.written_codes.specs.Listing.{listed_code, within, most_written_qubits, most_written_rows}
 
 -- whether the rows and the columns of m rows over n qubits have at most twelve ones
 abbrev pub light : ℕ → ℕ → List ℕ → Bool
-light m n rows = few most_weight m n (entry n rows) && few most_weight n m (turned_entry n rows)
+light m n rows = sparse most_weight m n rows
 
 -- whether row u of the checks shares an even number of qubits with row g of the generators
 abbrev pub shares_even : ℕ → List ℕ → List ℕ → ℕ → ℕ → Bool

@@ -5,13 +5,14 @@ ghost use Rattle.refusals.specs.declared.Refusal.TheVariants.{OutOfMemory};
 ghost use Rattle.refusals.specs.Questions.{first_no, answer};
 ghost use Rattle.patterns.specs.Sets.{all_below};
 ghost use Rattle.written_codes.specs.Listing.{within};
-ghost use Rattle.written_codes.specs.Writing.{light, shares_even, written_questions, written_refusal, written_code};
+ghost use Rattle.written_codes.specs.Writing.{shares_even, written_questions, written_refusal, written_code};
 ghost use Rattle.written_codes.specs.Held.{code_of};
 
 use crate::written::Written;
 use codes::limits::MOST_WEIGHT;
 use matrices::relation::Relation;
-use matrices::rows::{BitColumns, BitRows, Incidence, joined_to_few};
+use matrices::rows::{BitRows, Incidence};
+use matrices::sparse::Sparse;
 use refusals::Refusal;
 use std::alloc::Global;
 
@@ -51,13 +52,6 @@ fn is_within(most: u32, count: u32) -> bool
     ensures { result ≡ within most count }
 {
     (1..=most).contains(&count)
-}
-
-// Whether the rows of the matrix, and its columns, have few ones.
-fn is_light(matrix: BitRows<'_>) -> bool
-    ensures { result ≡ light matrix.entry.rows matrix.entry.columns matrix.entry.bytes.now }
-{
-    joined_to_few(&matrix, MOST_WEIGHT) && joined_to_few(&BitColumns { matrix }, MOST_WEIGHT)
 }
 
 impl<'a> Sides<'a> {
@@ -100,7 +94,7 @@ impl<'a> Sides<'a> {
         if !checks.unused_are_zero() || !generators.unused_are_zero() {
             return Err(Refusal::UnusedBitSet);
         }
-        if !is_light(checks) || !is_light(generators) {
+        if !checks.is_sparse(MOST_WEIGHT) || !generators.is_sparse(MOST_WEIGHT) {
             return Err(Refusal::DegreeOutOfRange);
         }
         if !self.all_share_even() {
@@ -114,8 +108,12 @@ impl<'a> Sides<'a> {
         requires { first_no (written_questions self.checks.columns self.checks.rows self.generators.rows self.checks.bytes.now self.generators.bytes.now) ≡ None }
         ensures { MatchResult result (λ w. code_of w ≡ written_code self.entry.checks.columns self.entry.checks.rows self.entry.generators.rows self.entry.checks.bytes.now self.entry.generators.bytes.now) (λ e. e ≡ OutOfMemory) }
     {
-        let checks = Relation::of(heap, self.checks)?;
-        let generators = Relation::of(heap, self.generators)?;
+        let checks = Sparse {
+            relation: Relation::of(heap, self.checks)?,
+        };
+        let generators = Sparse {
+            relation: Relation::of(heap, self.generators)?,
+        };
         Ok(Written { checks, generators })
     }
 }

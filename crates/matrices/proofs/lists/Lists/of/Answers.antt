@@ -1,4 +1,4 @@
-use Rattle.std.proofs.Common.{◌≡◌, ◌<◌, [], ◌∷◌, ◌++◌, map, length, vec_items, sym, refl, ap, ◌∙◌, subst, ap₂, ⊎_elim, arith}
+use Rattle.std.proofs.Common.{◌≡◌, ◌<◌, [], ◌∷◌, ◌++◌, map, length, vec_items, sym, refl, ap, ◌∙◌, ap₂, ⊎_elim, arith}
 use Rattle.std.proofs.lemmas.Bool.{cases_lt}
 use Rattle.std.proofs.lemmas.List.FromFn.{map-range_with_len_more}
 use Rattle.std.proofs.lemmas.List.{map_push}
@@ -16,13 +16,13 @@ loop-a-preserved g c =
     let list = c.in_ok-gather.field-0 in
     let is = c.in_ok-gather.ensures in (
       ap (map vec_items) (pushed (list ∷ []) refl c.in_ok-push.was c.push.ensures.items)
-      ∙ map_push vec_items nodes list
-      ∙ ap₂ (λ xs x. xs ++ x ∷ []) c.loop-a.invariant.0 is.0
-      ∙ sym (map-range_with_len_more (λ u. members n (s u)) 0 c.loop-a.a c.loop-a.a (omega arith)),
+          ∙ map_push vec_items nodes list
+          ∙ ap₂ (λ xs x. xs ++ x ∷ []) c.loop-a.invariant.0 is.0
+          ∙ sym (map-range_with_len_more (λ u. members n (s u)) 0 c.loop-a.a c.loop-a.a (omega arith)),
       λ u h. ⊎_elim
-      (λ l. c.loop-a.invariant.1 u l)
-      (λ l. let e : u ≡ c.loop-a.a = omega arith in omega (arith, ap length is.0, ap (λ k. length (members n (s k))) e, is.1))
-      (cases_lt u c.loop-a.a),
+          (λ l. c.loop-a.invariant.1 u l)
+          (λ l. let e : u ≡ c.loop-a.a = omega arith in omega (arith, ap length is.0, ap (λ k. length (members n (s k))) e, is.1))
+          (cases_lt u c.loop-a.a),
     )
 
 pub invariant_of-result : goal.invariant_of-result
