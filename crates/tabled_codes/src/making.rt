@@ -15,10 +15,10 @@ impl Tables {
     pub(crate) fn of<C: Code>(heap: Global, code: &C) -> Result<Tables, Refusal>
         ensures { MatchResult result (λ t. layout_of t (C.Code.layout code.now) ≡ C.Code.layout code.now) (λ e. e ≡ OutOfMemory) }
     {
-        let checks = write_table(heap, &Checks { code })?;
-        let generators = write_table(heap, &Generators { code })?;
-        let by_check = write_table(heap, &ByCheck { code })?;
-        let by_generator = write_table(heap, &ByGenerator { code })?;
+        let checks = write_table(heap, Checks { code })?;
+        let generators = write_table(heap, Generators { code })?;
+        let by_check = write_table(heap, ByCheck { code })?;
+        let by_generator = write_table(heap, ByGenerator { code })?;
         Ok(Tables {
             checks,
             generators,
