@@ -1,6 +1,5 @@
 -- Sets of local checks as bits of three words. Assumes nothing.
 use Rattle.std.proofs.Common.{◌≡◌, ℕ, zero, suc, ◌+◌, ◌*◌, ◌/◌, ◌%◌, ◌^◌, ◌<◌, ◌≤◌, Bool, true, false, not, cond, ◌&&◌, ◌||◌, eqb, ltb, List, [], ◌∷◌, ◌++◌, length, get_or, take, replicate, Some, None, sym, refl, ap, ◌∙◌, ap₂, ⊎_elim, arith, lit<, length-set, get_or-set_other, get_or-set_same}
-use mir.Val.{bool_byte}
 use lib.Bits.{bit_xor, xor_lt}
 use Rattle.std.specs.List.{All, position, prefix_len}
 use Rattle.std.proofs.lemmas.Nat.{pow_below}
@@ -13,13 +12,8 @@ use Rattle.patterns.proofs.Sums.{plus_zero, plus_comm}
 use Rattle.patterns.proofs.Lists.{has_here}
 use Rattle.patterns.proofs.Bits.{bit_of_xor, bit_pow}
 use Rattle.best_sets.specs.Walk.{changed_by}
-use Rattle.flips.specs.Local.{bit_at, at, Marks, marked, one_if}
+use Rattle.flips.specs.Local.{bit_at, at, Marks, marked}
 use Rattle.flips.proofs.Gathered.{has_get_d, has_first}
-
--- a bit as a byte
-pub bit_byte : (b : Bool) → bool_byte b ≡ one_if b
-bit_byte true = refl
-bit_byte false = refl
 
 pub at_add : (ds : List ℕ) (p q : Set) (j : ℕ) → at ds (λ u. p u ⊕ q u) j ≡ (at ds p j ⊕ at ds q j)
 at_add [] p q j = refl
