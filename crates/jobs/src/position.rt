@@ -16,11 +16,22 @@ pub(crate) struct Position<'a, 'b, C: Code> {
 }
 
 impl<'a, 'b, C: Code> Position<'a, 'b, C> {
-    ghost use Rattle.std.specs.Prelude.{◌<◌};
-    ghost use Rattle.std.specs.Option.{option_map};
+    ghost use Rattle.std.specs.Prelude.{◌<◌, is_some};
+    ghost use Rattle.std.specs.Option.{option_map, IfSome};
     ghost use Rattle.jobs.specs.Choosing.{lowest};
     ghost use Rattle.jobs.specs.Moving.{dangling, wholly_open, lowerable};
     ghost use Rattle.jobs.specs.Closings.{OpenAt};
+
+    // The check with its open qubit, if it is dangling.
+    fn as_dangling(&self, u: Check) -> Option<(Check, Qubit)>
+        requires { u.0 < (C.layout self.now.code.now).checks }
+        ensures value { is_some result ≡ dangling (C.layout self.now.code.now) (model self.now.job.now) u.0 }
+        ensures check { IfSome result (λ p. p.0.0 ≡ u.0) }
+        ensures qubit { OpenAt (C.layout self.now.code.now) (model self.now.job.now) result }
+    {
+        let v = self.job.only_open(self.code, u)?;
+        Some((u, v))
+    }
 
     // The lowest dangling check, with its open qubit; there is none below `from`.
     pub(crate) fn lowest_dangling(&self, from: u32) -> Option<(Check, Qubit)>
@@ -28,10 +39,7 @@ impl<'a, 'b, C: Code> Position<'a, 'b, C> {
         ensures value { option_map (λ p. p.0.0) result ≡ lowest (C.layout self.now.code.now).checks (dangling (C.layout self.now.code.now) (model self.now.job.now)) }
         ensures qubit { OpenAt (C.layout self.now.code.now) (model self.now.job.now) result }
     {
-        (from..self.code.checks()).find_map(|u| {
-            let v = self.job.only_open(self.code, Check(u))?;
-            Some((Check(u), v))
-        })
+        (from..self.code.checks()).find_map(|u| self.as_dangling(Check(u)))
     }
 
     // Whether the generator has qubits, and all are open.
