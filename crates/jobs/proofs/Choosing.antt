@@ -2,6 +2,7 @@
 use Rattle.std.proofs.Common.{◌≡◌, ℕ, zero, suc, ◌+◌, ◌-◌, ◌<◌, ◌≤◌, min, Bool, true, false, List, [], ◌∷◌, length, get_or, is_some, Some, None, Option, sym, refl, ap, ◌∙◌, subst, ⊎_elim, arith}
 use Rattle.std.proofs.iter.Yields.{nat_range_steps}
 use Rattle.std.proofs.iter.runs.Sources.{range_runs}
+use Rattle.std.proofs.lemmas.Iterator.{YieldsList, YieldsList-from_range, cases_from_any, first_from_Range}
 use Rattle.std.proofs.lemmas.Iterator.Adapters.{option_map_id}
 use Rattle.std.proofs.lemmas.List.FromFn.{length-range_with_len, get_or-range_with_len}
 use Rattle.std.specs.Bool.{⊤, MatchBool, IsTrue}
@@ -9,12 +10,10 @@ use Rattle.std.specs.Fn.{Called, CalledAt}
 use Rattle.std.specs.Iterator.{FindsItem, ChecksAny}
 use Rattle.std.specs.Iterator.Runs.{Run, SomeRun, ItemsCountUp, CallKeepsClosure, AllItemsGive, IsFirstToGive}
 use Rattle.std.specs.List.{range_with_len, fold, reduce, HoldsAt, AllWithin}
-use Rattle.std.specs.Option.{MatchOption, IfSome, IsSomeAnd, unwrap_or}
+use Rattle.std.specs.Option.{option_map, MatchOption, IfSome, IsSomeAnd, unwrap_or}
 use Rattle.std.specs.declared.ops.Range.{Range}
 use denote.Param.Members.{Mut}
 use denote.Ref.{Bor}
-use Rattle.std.proofs.lemmas.Iterator.{YieldsList, YieldsList-from_range, cases_from_any, first_from_Range}
-use Rattle.std.specs.Option.{option_map}
 use Rattle.std.proofs.lemmas.Bool.{cases_lt, cond-true}
 use Rattle.patterns.specs.Sets.{Set}
 use Rattle.jobs.proofs.Picks.{none_is, lowest_none, none_below, found_below}
