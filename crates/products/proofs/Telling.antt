@@ -28,8 +28,8 @@ module _ (m : ℕ) (rows : ℕ → List ℕ) (u k : ℕ) where
 
 -- ---- where one part of a pair moves
 
-module _ (m n w x k : ℕ) (some : 0 < w) (rows : ℕ → List ℕ) where
-  pub first_told : option_map (λ v. v * w + x % w) (neighbour m rows (x / w) k) ≡ neighbour (m * w) (by_first w rows) x k
+module _ (m w x k : ℕ) (some : 0 < w) (rows : ℕ → List ℕ) where
+  first_told : option_map (λ v. v * w + x % w) (neighbour m rows (x / w) k) ≡ neighbour (m * w) (by_first w rows) x k
   first_told =
       ⊎_elim
       (λ h. ap (option_map (λ v. v * w + x % w)) (here m rows (x / w) k (div_below x w m some h))
@@ -38,30 +38,32 @@ module _ (m n w x k : ℕ) (some : 0 < w) (rows : ℕ → List ℕ) where
       (λ h. ap (option_map (λ v. v * w + x % w)) (past m rows (x / w) k (le-div m x w some h)) ∙ sym (past (m * w) (by_first w rows) x k h))
       (cases_lt x (m * w))
 
-  pub second_told : x / w < m → option_map (λ v. x / w * n + v) (neighbour w rows (x % w) k) ≡ neighbour (m * w) (by_second w n rows) x k
+  -- by a width that was told
+  pub first_moved : (width : ℕ) (r : Option ℕ) → width ≡ w → r ≡ neighbour m rows (x / width) k → option_map (λ v. v * width + x % width) r ≡ neighbour (m * w) (by_first w rows) x k
+  first_moved width r e is =
+      ap (option_map (λ v. v * width + x % width)) is
+      ∙ ap (λ j. option_map (λ v. v * j + x % j) (neighbour m rows (x / j) k)) e
+      ∙ first_told
+
+  pub first_small : Light (m * w) (by_first w rows) → (width v : ℕ) → width ≡ w → Some v ≡ neighbour m rows (x / width) k → v * width + x % width < most_pairs
+  first_small light width v e is = small_told (m * w) (by_first w rows) x k light (v * width + x % width) (first_moved width (Some v) e is)
+
+module _ (m n w x k : ℕ) (some : 0 < w) (rows : ℕ → List ℕ) where
+  second_told : x / w < m → option_map (λ v. x / w * n + v) (neighbour w rows (x % w) k) ≡ neighbour (m * w) (by_second w n rows) x k
   second_told h =
       ap (option_map (λ v. x / w * n + v)) (here w rows (x % w) k (mod_below x w some))
       ∙ sym (slice_get-map (λ v. x / w * n + v) (rows (x % w)) k)
       ∙ sym (here (m * w) (by_second w n rows) x k (omega (arith, mul-add-lt (x / w) w (x % w) m h (mod_below x w some), div-add-mod' x w)))
 
--- the same, of a width that was told
-pub first_pair : (m w width x k v : ℕ) (rows : ℕ → List ℕ) → 0 < w → width ≡ w → Some v ≡ neighbour m rows (x / width) k → Some (v * width + x % width) ≡ neighbour (m * w) (by_first w rows) x k
-first_pair m w width x k v rows some e is =
-    ap (option_map (λ v. v * width + x % width)) is
-    ∙ ap (λ j. option_map (λ v. v * j + x % j) (neighbour m rows (x / j) k)) e
-    ∙ first_told m 0 w x k some rows
+  -- by widths that were told
+  pub second_moved : (width to v : ℕ) → width ≡ w → to ≡ n → x / width < m → Some v ≡ neighbour w rows (x % width) k → Some (x / width * to + v) ≡ neighbour (m * w) (by_second w n rows) x k
+  second_moved width to v e t h is =
+      ap (option_map (λ v. x / width * to + v)) is
+      ∙ ap₂ (λ j i. option_map (λ v. x / j * i + v) (neighbour w rows (x % j) k)) e t
+      ∙ second_told (subst (λ j. x / j < m) e h)
 
-pub first_ended : (m w width x k : ℕ) (rows : ℕ → List ℕ) → 0 < w → width ≡ w → None ≡ neighbour m rows (x / width) k → None ≡ neighbour (m * w) (by_first w rows) x k
-first_ended m w width x k rows some e is =
-    ap (option_map (λ v. v * width + x % width)) is
-    ∙ ap (λ j. option_map (λ v. v * j + x % j) (neighbour m rows (x / j) k)) e
-    ∙ first_told m 0 w x k some rows
-
-pub second_pair : (m n w width to x k v : ℕ) (rows : ℕ → List ℕ) → 0 < w → width ≡ w → to ≡ n → x / width < m → Some v ≡ neighbour w rows (x % width) k → Some (x / width * to + v) ≡ neighbour (m * w) (by_second w n rows) x k
-second_pair m n w width to x k v rows some e t h is =
-    ap (option_map (λ v. x / width * to + v)) is
-    ∙ ap₂ (λ j i. option_map (λ v. x / j * i + v) (neighbour w rows (x % j) k)) e t
-    ∙ second_told m n w x k some rows (subst (λ j. x / j < m) e h)
+  pub second_small : Light (m * w) (by_second w n rows) → (width to v : ℕ) → width ≡ w → to ≡ n → x / width < m → Some v ≡ neighbour w rows (x % width) k → x / width * to + v < most_pairs
+  second_small light width to v e t h is = small_told (m * w) (by_second w n rows) x k light (x / width * to + v) (second_moved width to v e t h is)
 
 -- ---- rows over two blocks
 
