@@ -1,8 +1,8 @@
 -- The choice is the best of the sets: it is one of them, it lowers the weight, and no set beats it. Assumes nothing.
 use Rattle.std.proofs.Common.{◌≡◌, ℕ, zero, suc, ◌<◌, ◌≤◌, Bool, true, false, cond, ltb, ◌⊎◌, List, [], ◌∷◌, length, get_or, Some, None, filter, Option, sym, refl, ap, ◌∙◌, subst, ap₂, inl, inr, ⊎_elim, arith}
-use Rattle.std.specs.List.{ContainsAt as Has, best_of}
+use Rattle.std.specs.List.{Contains, best_of}
 use Rattle.std.proofs.lemmas.List.MinMax.{IsFirstBest-from_best_of}
-use Rattle.std.proofs.ByRecursion.{has_get_or}
+use Rattle.std.proofs.lemmas.List.Elements.{Contains-get_or, at_from_Contains}
 use Rattle.std.proofs.lemmas.Bool.{ltb-true, ltb-false}
 use Rattle.patterns.specs.Sets.{Set, has, Apart}
 use Rattle.best_sets.specs.Best.{sets, beats, best_set, lowering, Chosen, BestIsUnbeaten}
@@ -13,24 +13,24 @@ pub use Rattle.best_sets.proofs.Ranked.{no_less}
 -- ---- the best set
 
 -- the best set is the empty one or one of the sets, and no set beats it
-pub best_is : (w : List ℕ → ℕ) (xs : List ℕ) → ((best_set w xs ≡ []) ⊎ Has (sets xs) (best_set w xs)) × ((t : List ℕ) → Has (sets xs) t → beats w t (best_set w xs) ≡ false)
+pub best_is : (w : List ℕ → ℕ) (xs : List ℕ) → ((best_set w xs ≡ []) ⊎ Contains (sets xs) (best_set w xs)) × ((t : List ℕ) → Contains (sets xs) t → beats w t (best_set w xs) ≡ false)
 unfolding best_set
 best_is w xs =
     let found = IsFirstBest-from_best_of (ranks w) [] (sets xs) in (
       placed found.0 found.1.0 found.2,
-      λ t at. ap₂ (beats w) (sym (at.2 [])) (sym found.2) ∙ found.1.1 (suc at.0) [] (let h = at.1 in omega arith),
+      λ t c. let at = at_from_Contains (sets xs) t c in ap₂ (beats w) (sym (at.2 [])) (sym found.2) ∙ found.1.1 (suc at.0) [] (let h = at.1 in omega arith),
     )
   where
-    placed : (b : ℕ) → b < length ([] ∷ sets xs) → get_or ([] ∷ sets xs) b [] ≡ best_of (beats w) [] (sets xs) → (best_of (beats w) [] (sets xs) ≡ []) ⊎ Has (sets xs) (best_of (beats w) [] (sets xs))
+    placed : (b : ℕ) → b < length ([] ∷ sets xs) → get_or ([] ∷ sets xs) b [] ≡ best_of (beats w) [] (sets xs) → (best_of (beats w) [] (sets xs) ≡ []) ⊎ Contains (sets xs) (best_of (beats w) [] (sets xs))
     placed zero h e = inl (sym e)
-    placed (suc b) h e = inr (subst (Has (sets xs)) e (has_get_or (sets xs) b [] (omega arith)))
+    placed (suc b) h e = inr (subst (Contains (sets xs)) e (Contains-get_or (sets xs) b [] (omega arith)))
 
 -- ---- the choice
 
 -- What is asked of a choice, over the sets as lists.
 abbrev Lowers : (List ℕ → ℕ) → List ℕ → Option (List ℕ) → Type 0
-Lowers w xs (Some f) = Has (sets xs) f × (w f < w []) × ((t : List ℕ) → Has (sets xs) t → beats w t f ≡ false)
-Lowers w xs None = (t : List ℕ) → Has (sets xs) t → w [] ≤ w t
+Lowers w xs (Some f) = Contains (sets xs) f × (w f < w []) × ((t : List ℕ) → Contains (sets xs) t → beats w t f ≡ false)
+Lowers w xs None = (t : List ℕ) → Contains (sets xs) t → w [] ≤ w t
 
 -- the choice meets it
 lowering_is : (w : List ℕ → ℕ) (xs : List ℕ) → Lowers w xs (lowering w xs)

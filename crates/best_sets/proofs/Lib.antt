@@ -3,3 +3,4 @@ pub mod Walks
 pub mod Ranked
 pub mod Kept
 pub mod Laws
+pub mod Rises

@@ -1,8 +1,9 @@
 -- The walk over the sets of the rows finds the best set of the numbers that the rows stand for. Assumes nothing.
-use Rattle.std.proofs.Common.{◌≡◌, ℕ, zero, suc, ◌+◌, ◌*◌, ◌<◌, ◌≤◌, Bool, true, false, cond, ◌&&◌, ◌||◌, eqb, ltb, List, [], ◌∷◌, ◌++◌, map, length, fold, sym, refl, ap, ◌∙◌, ap₂, ⊎_elim, arith}
+use Rattle.std.proofs.Common.{◌≡◌, ℕ, zero, suc, ◌+◌, ◌*◌, ◌<◌, ◌≤◌, Bool, true, false, cond, ◌&&◌, ◌||◌, eqb, ltb, List, [], ◌∷◌, ◌++◌, map, length, sym, refl, ap, ◌∙◌, ap₂, ⊎_elim, arith}
 use mathlib.Core.List.{map-map, map-append}
-use Rattle.std.specs.List.{AllByRecursion, best_of}
-use Rattle.std.proofs.ByRecursion.{All-map, All-append, All-weaker}
+use Rattle.std.specs.List.{All, best_of}
+use Rattle.std.proofs.lemmas.List.Elements.{All-nil, All-cons, All-head, All-tail, All-map, All-append, All-weaker}
+use Rattle.std.proofs.lemmas.List.Sums.{fold-append}
 use Rattle.std.proofs.lemmas.Bool.{lt-ltb, le-ltb, eq-eqb, ne_eqb, cases_lt, cases_eq, both_ways}
 use Rattle.best_sets.specs.declared.Choice.{Choice}
 use Rattle.best_sets.specs.Walk.{changed_by, weighed, wins, walked}
@@ -48,15 +49,10 @@ leaf rows l z p b = record { weight = weighed (lefts rows l b); size = z + trues
 
 -- ---- the walk as a fold over all ways
 
--- a fold over two lists in a row
-folded_append : {X Y : Type 0} (f : Y → X → Y) (a : Y) (xs ys : List X) → fold f a (xs ++ ys) ≡ fold f (fold f a xs) ys
-folded_append f a [] ys = refl
-folded_append f a (x ∷ xs) ys = folded_append f (f a x) xs ys
-
 -- each way speaks of all places
-vectors_length : (k : ℕ) → AllByRecursion (λ b. length b ≡ k) (vectors k)
+vectors_length : (k : ℕ) → All (λ b. length b ≡ k) (vectors k)
 unfolding vectors
-vectors_length zero = (refl, tt)
+vectors_length zero = All-cons (λ b. length b ≡ zero) [] [] refl (All-nil (λ b. length b ≡ zero))
 vectors_length (suc k) =
     let h = All-weaker (λ b. length b ≡ k) (λ b. suc (length b) ≡ suc k) (λ b e. ap suc e) (vectors k) (vectors_length k) in
     All-append (λ b. length b ≡ suc k) (map (λ b. true ∷ b) (vectors k)) (map (λ b. false ∷ b) (vectors k))
@@ -88,7 +84,7 @@ walked_leaves (r ∷ rows) l z p best =
     let two : map (leaf rows l z (2 * p)) V ≡ map f (map (λ b. false ∷ b) V) = sym (map-map f (λ b. false ∷ b) V) in
     walked_leaves rows l z (2 * p) (walked rows (changed_by l r) (z + 1) (2 * p + 1) best)
     ∙ ap₂ (λ x ys. best_of wins x ys) (walked_leaves rows (changed_by l r) (z + 1) (2 * p + 1) best ∙ ap (best_of wins best) one) two
-    ∙ sym (folded_append pick-one best (map f (map (λ b. true ∷ b) V)) (map f (map (λ b. false ∷ b) V)))
+    ∙ sym (fold-append pick-one best (map f (map (λ b. true ∷ b) V)) (map f (map (λ b. false ∷ b) V)))
     ∙ ap (best_of wins best) (sym (map-append f (map (λ b. true ∷ b) V) (map (λ b. false ∷ b) V)))
 
 -- the sets of a list are what the ways pick of it
@@ -107,11 +103,13 @@ sets_picked (x ∷ xs) =
 -- where two tests agree, the two folds end at the same way
 pub side_by_side : {V X Y : Type 0} (P : V → Type 0) (f : V → X) (h : V → Y) (bx : X → X → Bool) (by : Y → Y → Bool)
     → ((a b : V) → P a → P b → bx (f a) (f b) ≡ by (h a) (h b))
-    → (a : V) (vs : List V) → P a → AllByRecursion P vs
+    → (a : V) (vs : List V) → P a → All P vs
     → (v : V) × P v × (best_of bx (f a) (map f vs) ≡ f v) × (best_of by (h a) (map h vs) ≡ h v)
 side_by_side P f h bx by agree a [] pa ps = (a, pa, refl, refl)
 side_by_side {V} {X} {Y} P f h bx by agree a (v ∷ vs) pa ps =
-    turn (bx (f v) (f a)) (by (h v) (h a)) (agree v a ps.0 pa) (side_by_side P f h bx by agree v vs ps.0 ps.1) (side_by_side P f h bx by agree a vs pa ps.1)
+    let pv = All-head P v vs ps in
+    let rest = All-tail P v vs ps in
+    turn (bx (f v) (f a)) (by (h v) (h a)) (agree v a pv pa) (side_by_side P f h bx by agree v vs pv rest) (side_by_side P f h bx by agree a vs pa rest)
   where
     End : X → Y → Type 0
     End x y = (u : V) × P u × (best_of bx x (map f vs) ≡ f u) × (best_of by y (map h vs) ≡ h u)
@@ -154,21 +152,21 @@ number_first p (false ∷ a) (true ∷ b) e = le-ltb (number_from (2 * p + 1) b)
 number_first p (false ∷ a) (false ∷ b) e = number_first (2 * p) a b (omega arith)
 
 -- what holds of all holds of what is picked
-pub all_picked : (P : ℕ → Type 0) (b : List Bool) (xs : List ℕ) → AllByRecursion P xs → AllByRecursion P (pick b xs)
-all_picked P [] xs h = tt
-all_picked P (b ∷ bs) [] h = tt
-all_picked P (true ∷ bs) (x ∷ xs) h = (h.0, all_picked P bs xs h.1)
-all_picked P (false ∷ bs) (x ∷ xs) h = all_picked P bs xs h.1
+pub all_picked : (P : ℕ → Type 0) (b : List Bool) (xs : List ℕ) → All P xs → All P (pick b xs)
+all_picked P [] xs h = All-nil P
+all_picked P (b ∷ bs) [] h = All-nil P
+all_picked P (true ∷ bs) (x ∷ xs) h = All-cons P x (pick bs xs) (All-head P x xs h) (all_picked P bs xs (All-tail P x xs h))
+all_picked P (false ∷ bs) (x ∷ xs) h = all_picked P bs xs (All-tail P x xs h)
 
 -- a list with x in front is sooner than one of numbers above x
-here_first : (x : ℕ) (s t : List ℕ) → AllByRecursion (λ y. x < y) t → sooner (x ∷ s) t ≡ true
+here_first : (x : ℕ) (s t : List ℕ) → All (λ y. x < y) t → sooner (x ∷ s) t ≡ true
 here_first x s [] h = refl
-here_first x s (y ∷ t) h = ap (λ b. b || (eqb x y && sooner s t)) (lt-ltb x y h.0)
+here_first x s (y ∷ t) h = ap (λ b. b || (eqb x y && sooner s t)) (lt-ltb x y (All-head (λ z. x < z) y t h))
 
 -- and the other way round it is not
-there_first : (x : ℕ) (s t : List ℕ) → AllByRecursion (λ y. x < y) s → sooner s (x ∷ t) ≡ false
+there_first : (x : ℕ) (s t : List ℕ) → All (λ y. x < y) s → sooner s (x ∷ t) ≡ false
 there_first x [] t h = refl
-there_first x (y ∷ s) t h = ap₂ (λ a b. a || (b && sooner s t)) (le-ltb y x (let k = h.0 in omega arith)) (ne_eqb y x (λ e. let k = h.0 in omega arith))
+there_first x (y ∷ s) t h = let k = All-head (λ z. x < z) y s h in ap₂ (λ a b. a || (b && sooner s t)) (le-ltb y x (omega arith)) (ne_eqb y x (λ e. omega arith))
 
 -- the same number in front of both does not matter
 both_first : (x : ℕ) (s t : List ℕ) → sooner (x ∷ s) (x ∷ t) ≡ sooner s t

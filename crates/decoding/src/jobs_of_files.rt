@@ -6,7 +6,6 @@ ghost use Rattle.decoding.specs.Files.{job_answer, job_output, file_answer, file
 
 use crate::jobs_of_codes::decode;
 use codes::exchanged::Exchanged;
-use graph_files::matrix::Matrix;
 use job_files::parts::{JobFile, Side};
 use job_files::reading::read_job;
 use products::product::Product;
@@ -14,21 +13,16 @@ use refusals::Refusal;
 use reports::refusal_line::write_refusal;
 use std::alloc::Global;
 
-// The report of a syndrome and an erasure on one side of the product of a graph with itself.
-fn decode_side(
-    heap: Global,
-    side: Side,
-    graph: Matrix,
-    syndrome: &[u8],
-    erasure: &[u8],
-    out: &mut [u8],
-) -> Result<usize, Refusal>
+// The report of what a job file tells: its syndrome and its erasure on its side of the product of its graph with itself.
+fn decode_job(heap: Global, job: JobFile<'_>, out: &mut [u8]) -> Result<usize, Refusal>
     ensures { UnlessNoMemory result out.old out.new
-        (job_answer side (graph_of graph) syndrome.now erasure.now out.old)
-        (job_output side (graph_of graph) syndrome.now erasure.now out.old) }
+        (job_answer job.entry.side (graph_of job.entry.graph) job.entry.syndrome.bytes.now job.entry.erasure.bytes.now out.old)
+        (job_output job.entry.side (graph_of job.entry.graph) job.entry.syndrome.bytes.now job.entry.erasure.bytes.now out.old) }
 {
-    let code = Product::of(graph);
-    match side {
+    let syndrome = job.syndrome.bytes;
+    let erasure = job.erasure.bytes;
+    let code = Product::of(job.graph);
+    match job.side {
         Side::Product => decode(heap, &code, syndrome, erasure, out),
         Side::ExchangedProduct => decode(heap, &Exchanged { code }, syndrome, erasure, out),
     }
@@ -40,16 +34,7 @@ pub fn decode_file(heap: Global, file: &[u8], out: &mut [u8]) -> Result<usize, R
     ensures bound { IfOk result (λ size. size ≤ length out.old) }
 {
     match read_job(heap, file) {
-        Ok(job) => {
-            let JobFile {
-                side,
-                graph,
-                syndrome,
-                erasure,
-                ..
-            } = job;
-            decode_side(heap, side, graph, syndrome.bytes, erasure.bytes, out)
-        }
+        Ok(job) => decode_job(heap, job, out),
         Err(fault) => match fault.refusal() {
             Refusal::OutOfMemory => Err(Refusal::OutOfMemory),
             _ => write_refusal(fault, out),

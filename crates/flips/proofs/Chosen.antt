@@ -1,9 +1,9 @@
 -- From the walk over the sets to the best set of some qubits. Assumes nothing.
 use Rattle.std.proofs.Common.{◌≡◌, ℕ, suc, ◌+◌, ◌-◌, ◌*◌, ◌/◌, ◌%◌, ◌^◌, ◌<◌, ◌≤◌, Bool, true, false, cond, eqb, List, [], ◌∷◌, ◌++◌, map, length, get_or, drop, Some, None, sym, refl, ap, ◌∙◌, ⊎_elim, pow-suc, arith, length-drop}
 use native.Mathlib.Nat.{div-div-eq-div-mul}
-use Rattle.std.specs.List.{ContainsAt as Has}
+use Rattle.std.specs.List.{Contains}
 use Rattle.std.proofs.lemmas.List.{drop_more}
-use Rattle.std.proofs.ByRecursion.{has_append_right}
+use Rattle.std.proofs.lemmas.List.Elements.{Contains-append_right}
 use Rattle.std.proofs.lemmas.Bool.{eq-eqb, ne_eqb, lt-ltb, le-ltb, cases_lt}
 use Rattle.patterns.specs.Sets.{has}
 use Rattle.patterns.specs.Patterns.{bit, member, Well}
@@ -41,9 +41,9 @@ picked_number p (false ∷ b) (x ∷ xs) e =
     let off : bit n (length xs) ≡ false = ap (λ k. bit n k) (sym same) ∙ ap (λ m. eqb (m % 2) 1) (number_high (2 * p) b) ∙ ne_eqb ((2 * p) % 2) 1 (λ z. omega arith) in
     ap (λ t. cond t (x ∷ picked n xs) (picked n xs)) off ∙ picked_number (2 * p) b xs same
 
-has_empty : (xs : List ℕ) → Has (sets xs) []
-has_empty [] = (0, omega arith, λ d. refl)
-has_empty (x ∷ xs) = has_append_right (map (λ s. x ∷ s) (sets xs)) (sets xs) [] (has_empty xs)
+has_empty : (xs : List ℕ) → Contains (sets xs) []
+has_empty [] = (0, omega arith, refl)
+has_empty (x ∷ xs) = Contains-append_right (map (λ s. x ∷ s) (sets xs)) (sets xs) [] (has_empty xs)
 
 pub rows_length : (c : Layout) (ds xs : List ℕ) (rows : List (List ℕ)) → Rows c ds xs rows → length rows ≡ length xs
 rows_length c ds [] [] r = refl
@@ -60,13 +60,10 @@ rows_push c ds (z ∷ xs) (y ∷ rows) x r h m = (h.0, rows_push c ds xs rows x 
 -- what the walk answers for at most twelve rows
 module _ (rows : List (List ℕ)) (start : List ℕ) (few : length rows ≤ 12) where
   there_is_one : Some (walked rows start 0 0 (record { weight = weighed start; size = 0; picks = 0 })) ≡ walk_of rows start
-  there_is_one = walk_within rows start (weighed start) (walked rows start 0 0 (record { weight = weighed start; size = 0; picks = 0 })) few refl refl
+  there_is_one = walk_within rows start (record { weight = weighed start; size = 0; picks = 0 }) (walked rows start 0 0 (record { weight = weighed start; size = 0; picks = 0 })) few refl refl
 
   pub walked_is : (r : Choice) → Some r ≡ walk_of rows start → r ≡ walked rows start 0 0 (record { weight = weighed start; size = 0; picks = 0 })
   walked_is r e = let one = there_is_one in cc
-
-  pub never_none : None ≡ walk_of rows start → ⊥
-  never_none e = let one = there_is_one in let z : ◌≡◌ {A = ℕ} 0 1 = cc in omega arith
 
 pub choice_right : (c : Layout) → Sound c → (remaining xs ds start : List ℕ) (rows : List (List ℕ)) → Well c.checks remaining → Local c (member remaining) xs ds start rows
     → (r : Choice) → r ≡ walked rows start 0 0 (record { weight = weighed start; size = 0; picks = 0 })

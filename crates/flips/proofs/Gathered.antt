@@ -1,60 +1,41 @@
 -- Gathering the checks of some qubits. Assumes nothing.
-use Rattle.std.proofs.Common.{◌≡◌, ℕ, zero, suc, ◌+◌, ◌<◌, Bool, true, false, cond, ◌||◌, eqb, List, [], ◌∷◌, ◌++◌, length, get_or, take, drop, set, sym, refl, ap, ◌∙◌, subst, ap₂, arith}
-use Rattle.std.specs.List.{AllByRecursion}
-use Rattle.std.proofs.lemmas.List.{at_drop_more, take_more, take_more_set, drop_more}
-use Rattle.std.proofs.ByRecursion.{All-append}
-use Rattle.std.proofs.lemmas.Bool.{eq-eqb, ne_eqb, eqb-true, both_ways, or_right, or_parts, or_from}
+use Rattle.std.proofs.Common.{◌≡◌, ℕ, zero, suc, ◌<◌, Bool, true, false, cond, ◌||◌, eqb, List, [], ◌∷◌, ◌++◌, length, get_or, sym, refl, ap, ◌∙◌, subst, arith}
+use Rattle.std.specs.List.{All, list_any}
+use Rattle.std.proofs.lemmas.List.Elements.{All-nil, All-cons, All-head, All-tail, All-push}
+use Rattle.std.proofs.lemmas.Bool.{cond-true, cond-false, eq-eqb, ne_eqb, eqb-true, both_ways, or_right, or_parts, or_from}
 use Rattle.patterns.specs.Sets.{◌⊕◌, has, Apart}
 use Rattle.patterns.proofs.Lists.{has_here}
 use Rattle.codes.specs.Layouts.{Layout, Sound}
 use Rattle.flips.specs.Local.{with_new, gathered, local_checks}
-
--- one number of a list more
-pub has_step : (xs : List ℕ) (i u : ℕ) → i < length xs → has (drop i xs) u ≡ (eqb (get_or xs i 0) u || has (drop (i + 1) xs) u)
-has_step xs i u h = at_drop_more (λ l. has l u) xs i 0 h
-
-pub gathered_more : (ds row all : List ℕ) (k u : ℕ) → k < length row → get_or row k 0 ≡ u → gathered ds (drop k row) ≡ all → gathered (with_new ds u) (drop (k + 1) row) ≡ all
-gathered_more ds row all k u h is e = ap (λ x. gathered (with_new ds x) (drop (k + 1) row)) (sym is) ∙ sym (ap (gathered ds) (drop_more row k 0 h)) ∙ e
-
-pub new_listed : (xs : List ℕ) (n u : ℕ) → n < length xs → false ≡ has (take n xs) u → take (n + 1) (set xs n u) ≡ with_new (take n xs) u
-new_listed xs n u h e = take_more_set xs n u h ∙ ap (λ b. cond b (take n xs) (take n xs ++ u ∷ [])) e
-
-pub old_listed : (ds : List ℕ) (u : ℕ) → true ≡ has ds u → ds ≡ with_new ds u
-old_listed ds u e = ap (λ b. cond b ds (ds ++ u ∷ [])) e
 
 pub has_get_d : (xs : List ℕ) (k : ℕ) → k < length xs → has xs (get_or xs k 0) ≡ true
 has_get_d [] k h = absurd (omega arith)
 has_get_d (x ∷ xs) zero h = has_here x xs
 has_get_d (x ∷ xs) (suc k) h = or_right (eqb x (get_or xs k 0)) (has xs (get_or xs k 0)) (has_get_d xs k (omega arith))
 
--- one more of a list without repeats
-pub has_push : (xs : List ℕ) (u w : ℕ) → has (xs ++ u ∷ []) w ≡ (has xs w || eqb u w)
-has_push [] u w = or_off (eqb u w)
+-- the first of a list without repeats, and the others
+pub has_first : (u : ℕ) (us : List ℕ) (w : ℕ) → Apart (u ∷ us) → has (u ∷ us) w ≡ (has us w ⊕ eqb u w)
+has_first u us w a = part (eqb u w) (has us w) (λ e. ap (has us) (sym (eqb-true u w e)) ∙ a.0)
   where
-    or_off : (b : Bool) → (b || false) ≡ b
-    or_off true = refl
-    or_off false = refl
-has_push (x ∷ xs) u w = ap (λ b. eqb x w || b) (has_push xs u w) ∙ sym (or_assoc (eqb x w) (has xs w) (eqb u w))
-  where
-    or_assoc : (a b c : Bool) → ((a || b) || c) ≡ (a || (b || c))
-    or_assoc true b c = refl
-    or_assoc false b c = refl
+    part : (x y : Bool) → (x ≡ true → y ≡ false) → (x || y) ≡ (y ⊕ x)
+    part true true f = absurd (both_ways true (f refl) refl)
+    part true false f = refl
+    part false true f = refl
+    part false false f = refl
 
-pub fresh : (xs : List ℕ) (k : ℕ) → Apart xs → k < length xs → has (take k xs) (get_or xs k 0) ≡ false
-fresh [] k a h = absurd (omega arith)
-fresh (x ∷ xs) zero a h = refl
-fresh (x ∷ xs) (suc k) a h = ap₂ ◌||◌ (ne_eqb x (get_or xs k 0) (λ e. both_ways (has xs x) a.0 (ap (has xs) e ∙ has_get_d xs k (omega arith)))) (fresh xs k a.1 (omega arith))
+-- what `contains` tells of a list
+pub listed : (xs : List ℕ) (u : ℕ) → list_any (λ x. eqb x u) xs ≡ has xs u
+listed [] u = refl
+listed (x ∷ xs) u = ap (λ b. eqb x u || b) (listed xs u)
 
-pub has_next : (row : List ℕ) (k u w : ℕ) → Apart row → k < length row → get_or row k 0 ≡ u → has (take (k + 1) row) w ≡ (has (take k row) w ⊕ eqb u w)
-has_next row k u w a h is =
-    ap (λ l. has l w) (take_more row k 0 h ∙ ap (λ x. take k row ++ x ∷ []) is)
-    ∙ has_push (take k row) u w
-    ∙ apart_sum (has (take k row) w) (eqb u w) (λ p q. both_ways (has (take k row) w) (ap (has (take k row)) (sym (is ∙ eqb-true u w q)) ∙ fresh row k a h) p)
-  where
-    apart_sum : (x y : Bool) → (x ≡ true → y ≡ true → ⊥) → (x || y) ≡ (x ⊕ y)
-    apart_sum true true f = absurd (f refl refl)
-    apart_sum true false f = refl
-    apart_sum false y f = refl
+-- one more to gather, which is there already
+pub gathered_old : (ds us rest all : List ℕ) (u : ℕ) → has ds u ≡ true → us ≡ u ∷ rest → gathered ds us ≡ all → gathered ds rest ≡ all
+gathered_old ds us rest all u there e is = ap (λ l. gathered l rest) (sym (cond-true (has ds u) ds (ds ++ u ∷ []) there)) ∙ sym (ap (gathered ds) e) ∙ is
+
+-- one more, which is not
+pub gathered_new : (ds more us rest all : List ℕ) (u : ℕ) → has ds u ≡ false → more ≡ ds ++ u ∷ [] → us ≡ u ∷ rest → gathered ds us ≡ all → gathered more rest ≡ all
+gathered_new ds more us rest all u fresh pushed e is =
+    ap (λ l. gathered l rest) (pushed ∙ sym (cond-false (has ds u) ds (ds ++ u ∷ []) fresh)) ∙ sym (ap (gathered ds) e) ∙ is
 
 -- what is gathered
 apart_added : (ds : List ℕ) (u : ℕ) → Apart ds → has ds u ≡ false → Apart (ds ++ u ∷ [])
@@ -73,13 +54,13 @@ apart_gathered ds (u ∷ us) a = apart_gathered (with_new ds u) us (part (has ds
     part true e = a
     part false e = apart_added ds u a e
 
-pub all_gathered : (P : ℕ → Type 0) (ds us : List ℕ) → AllByRecursion P ds → AllByRecursion P us → AllByRecursion P (gathered ds us)
+pub all_gathered : (P : ℕ → Type 0) (ds us : List ℕ) → All P ds → All P us → All P (gathered ds us)
 all_gathered P ds [] a h = a
-all_gathered P ds (u ∷ us) a h = all_gathered P (with_new ds u) us (part (has ds u)) h.1
+all_gathered P ds (u ∷ us) a h = all_gathered P (with_new ds u) us (part (has ds u)) (All-tail P u us h)
   where
-    part : (b : Bool) → AllByRecursion P (cond b ds (ds ++ u ∷ []))
+    part : (b : Bool) → All P (cond b ds (ds ++ u ∷ []))
     part true = a
-    part false = All-append P ds (u ∷ []) a (h.0, tt)
+    part false = All-push P ds u a (All-head P u us h)
 
 -- what is not gathered was in neither
 not_pushed : (xs : List ℕ) (u w : ℕ) → has (xs ++ u ∷ []) w ≡ false → (has xs w ≡ false) × (eqb u w ≡ false)
@@ -101,32 +82,34 @@ pub local_apart : (c : Layout) (ds vs : List ℕ) → Apart ds → Apart (local_
 local_apart c ds [] a = a
 local_apart c ds (v ∷ vs) a = local_apart c (gathered ds (c.checks_of v)) vs (apart_gathered ds (c.checks_of v) a)
 
-pub all_by_has : (P : ℕ → Type 0) (us : List ℕ) → ((u : ℕ) → has us u ≡ true → P u) → AllByRecursion P us
-all_by_has P [] f = tt
-all_by_has P (u ∷ us) f = (f u (has_here u us), all_by_has P us (λ x k. f x (or_right (eqb u x) (has us x) k)))
+pub all_by_has : (P : ℕ → Type 0) (us : List ℕ) → ((u : ℕ) → has us u ≡ true → P u) → All P us
+all_by_has P [] f = All-nil P
+all_by_has P (u ∷ us) f = All-cons P u us (f u (has_here u us)) (all_by_has P us (λ x k. f x (or_right (eqb u x) (has us x) k)))
 
-pub local_within : (c : Layout) → Sound c → (ds vs : List ℕ) → AllByRecursion (λ u. u < c.checks) ds → AllByRecursion (λ v. v < c.qubits) vs → AllByRecursion (λ u. u < c.checks) (local_checks c ds vs)
+pub local_within : (c : Layout) → Sound c → (ds vs : List ℕ) → All (λ u. u < c.checks) ds → All (λ v. v < c.qubits) vs → All (λ u. u < c.checks) (local_checks c ds vs)
 local_within c sound ds [] a h = a
 local_within c sound ds (v ∷ vs) a h =
-    local_within c sound (gathered ds (c.checks_of v)) vs (all_gathered (λ u. u < c.checks) ds (c.checks_of v) a (all_by_has (λ u. u < c.checks) (c.checks_of v) (λ u k. sound.by_check.column_within v u h.0 k))) h.1
+    let first = All-head (λ w. w < c.qubits) v vs h in
+    let rest = All-tail (λ w. w < c.qubits) v vs h in
+    local_within c sound (gathered ds (c.checks_of v)) vs (all_gathered (λ u. u < c.checks) ds (c.checks_of v) a (all_by_has (λ u. u < c.checks) (c.checks_of v) (λ u k. sound.by_check.column_within v u first k))) rest
 
-pub local_meets : (c : Layout) (ds vs : List ℕ) (u : ℕ) → has (local_checks c ds vs) u ≡ false → (has ds u ≡ false) × AllByRecursion (λ v. has (c.checks_of v) u ≡ false) vs
-local_meets c ds [] u h = (h, tt)
+pub local_meets : (c : Layout) (ds vs : List ℕ) (u : ℕ) → has (local_checks c ds vs) u ≡ false → (has ds u ≡ false) × All (λ v. has (c.checks_of v) u ≡ false) vs
+local_meets c ds [] u h = (h, All-nil (λ v. has (c.checks_of v) u ≡ false))
 local_meets c ds (v ∷ vs) u h =
     let rest = local_meets c (gathered ds (c.checks_of v)) vs u h in
     let both = not_gathered ds (c.checks_of v) u rest.0 in
-    (both.0, (both.1, rest.1))
+    (both.0, All-cons (λ w. has (c.checks_of w) u ≡ false) v vs both.1 rest.1)
 
 -- what the local checks are known by
 pub record Known (c : Layout) (xs ds : List ℕ) : Type 0 where
   pub apart : Apart ds
-  pub checks : AllByRecursion (λ u. u < c.checks) ds
-  pub meets : (u : ℕ) → has ds u ≡ false → AllByRecursion (λ v. has (c.checks_of v) u ≡ false) xs
+  pub checks : All (λ u. u < c.checks) ds
+  pub meets : (u : ℕ) → has ds u ≡ false → All (λ v. has (c.checks_of v) u ≡ false) xs
 
-pub known : (c : Layout) → Sound c → (xs ds : List ℕ) → AllByRecursion (λ v. v < c.qubits) xs → ds ≡ local_checks c [] xs → Known c xs ds
+pub known : (c : Layout) → Sound c → (xs ds : List ℕ) → All (λ v. v < c.qubits) xs → ds ≡ local_checks c [] xs → Known c xs ds
 known c sound xs ds within e =
     subst (Known c xs) (sym e) (record {
       apart = local_apart c [] xs tt;
-      checks = local_within c sound [] xs tt within;
+      checks = local_within c sound [] xs (All-nil (λ u. u < c.checks)) within;
       meets = λ u h. (local_meets c [] xs u h).1;
     })

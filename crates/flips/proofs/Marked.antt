@@ -1,25 +1,19 @@
 -- Sets of local checks as bits of three words. Assumes nothing.
-use Rattle.std.proofs.Common.{◌≡◌, ℕ, zero, suc, ◌+◌, ◌*◌, ◌/◌, ◌%◌, ◌^◌, ◌<◌, ◌≤◌, Bool, true, false, ◌&&◌, eqb, List, [], ◌∷◌, ◌++◌, map, length, get_or, take, replicate, sym, refl, ap, ◌∙◌, ap₂, ⊎_elim, arith, lit<, length-set, get_or-set_other, get_or-set_same}
-use mir.Val.{bool_byte}
+use Rattle.std.proofs.Common.{◌≡◌, ℕ, zero, suc, ◌+◌, ◌*◌, ◌/◌, ◌%◌, ◌^◌, ◌<◌, ◌≤◌, Bool, true, false, not, cond, ◌&&◌, ◌||◌, eqb, ltb, List, [], ◌∷◌, ◌++◌, length, get_or, take, replicate, Some, None, sym, refl, ap, ◌∙◌, ap₂, ⊎_elim, arith, lit<, length-set, get_or-set_other, get_or-set_same}
 use lib.Bits.{bit_xor, xor_lt}
-use Rattle.std.specs.List.{AllByRecursion}
+use Rattle.std.specs.List.{All, position, prefix_len}
 use Rattle.std.proofs.lemmas.Nat.{pow_below}
 use Rattle.std.proofs.lemmas.List.{get_or_past, take_more, length-take-le}
-use Rattle.std.proofs.ByRecursion.{All-get_or, All-set}
-use Rattle.std.proofs.lemmas.Bool.{eq-eqb, ne_eqb, eqb-true, eqb-false, cases_Bool, cases_eq, both_ways, or_right}
+use Rattle.std.proofs.lemmas.List.Elements.{All-nil, All-cons, All-get_or, All-replicate, All-set}
+use Rattle.std.proofs.lemmas.Bool.{lt-ltb, le-ltb, cases_lt, eq-eqb, ne_eqb, eqb-true, eqb-false, cases_Bool, cases_eq, both_ways, or_right}
 use Rattle.patterns.specs.Sets.{Set, ◌⊕◌, has, Apart}
 use Rattle.patterns.specs.Patterns.{bit}
 use Rattle.patterns.proofs.Sums.{plus_zero, plus_comm}
 use Rattle.patterns.proofs.Lists.{has_here}
 use Rattle.patterns.proofs.Bits.{bit_of_xor, bit_pow}
 use Rattle.best_sets.specs.Walk.{changed_by}
-use Rattle.flips.specs.Local.{bit_at, at, Marks, marked, one_if}
-use Rattle.flips.proofs.Gathered.{has_get_d}
-
--- a bit as a byte
-pub bit_byte : (b : Bool) → bool_byte b ≡ one_if b
-bit_byte true = refl
-bit_byte false = refl
+use Rattle.flips.specs.Local.{bit_at, at, Marks, marked}
+use Rattle.flips.proofs.Gathered.{has_get_d, has_first}
 
 pub at_add : (ds : List ℕ) (p q : Set) (j : ℕ) → at ds (λ u. p u ⊕ q u) j ≡ (at ds p j ⊕ at ds q j)
 at_add [] p q j = refl
@@ -34,28 +28,17 @@ at_same (d ∷ ds) p q (suc j) h = at_same ds p q j (λ u k. h u (or_right (eqb 
 pub marks_same : (ds : List ℕ) (p q : Set) (ws : List ℕ) → ((u : ℕ) → has ds u ≡ true → p u ≡ q u) → Marks ds p ws → Marks ds q ws
 marks_same ds p q ws h m = record { three = m.three; words = m.words; each = λ j. m.each j ∙ at_same ds p q j h }
 
-at_map : (f : ℕ → ℕ) (ds : List ℕ) (p : Set) (j : ℕ) → at (map f ds) p j ≡ at ds (λ u. p (f u)) j
-at_map f [] p j = refl
-at_map f (d ∷ ds) p zero = refl
-at_map f (d ∷ ds) p (suc j) = at_map f ds p j
-
-one_of : (b : Bool) → eqb 1 (one_if b) ≡ b
-one_of true = refl
-one_of false = refl
-
--- the ones among bits that are written out as numbers
-pub marks_written : (ds : List ℕ) (p : Set) (ws : List ℕ) → Marks (map (λ u. one_if (p u)) ds) (eqb 1) ws → Marks ds p ws
-marks_written ds p ws m = record {
-  three = m.three;
-  words = m.words;
-  each = λ j. m.each j ∙ at_map (λ u. one_if (p u)) ds (eqb 1) j ∙ at_same ds (λ u. eqb 1 (one_if (p u))) p j (λ u _. one_of (p u));
-}
-
 changed_at : (a b : List ℕ) → length a ≡ 3 → length b ≡ 3 → (i : ℕ) → get_or (changed_by a b) i 0 ≡ bit_xor (get_or a i 0) (get_or b i 0)
 changed_at a b ha hb zero = refl
 changed_at a b ha hb (suc zero) = refl
 changed_at a b ha hb (suc (suc zero)) = refl
 changed_at a b ha hb (suc (suc (suc i))) = sym (ap₂ bit_xor (get_or_past a (suc (suc (suc i))) 0 (omega arith)) (get_or_past b (suc (suc (suc i))) 0 (omega arith)))
+
+-- three words
+below : (a b c : ℕ) → a < 2 ^ 64 → b < 2 ^ 64 → c < 2 ^ 64 → All (λ w. w < 2 ^ 64) (a ∷ b ∷ c ∷ [])
+below a b c x y z =
+    let P : ℕ → Type 0 = λ w. w < 2 ^ 64 in
+    All-cons P a (b ∷ c ∷ []) x (All-cons P b (c ∷ []) y (All-cons P c [] z (All-nil P)))
 
 -- a change of marks
 pub marks_changed : (ds : List ℕ) (p q : Set) (a b : List ℕ) → Marks ds p a → Marks ds q b → Marks ds (λ u. p u ⊕ q u) (changed_by a b)
@@ -65,7 +48,7 @@ marks_changed ds p q a b m n =
     xor_lt 64 (get_or a i 0) (get_or b i 0) (All-get_or (λ w. w < 2 ^ 64) a i 0 (let e = m.three in omega arith) m.words) (All-get_or (λ w. w < 2 ^ 64) b i 0 (let e = n.three in omega arith) n.words) in
     record {
       three = refl;
-      words = (word 0 (omega arith), (word 1 (omega arith), (word 2 (omega arith), tt)));
+      words = below _ _ _ (word 0 (omega arith)) (word 1 (omega arith)) (word 2 (omega arith));
       each = λ j.
           ap (λ w. bit w (j % 64)) (changed_at a b m.three n.three (j / 64))
           ∙ bit_of_xor (get_or a (j / 64) 0) (get_or b (j / 64) 0) (j % 64)
@@ -95,7 +78,7 @@ bits_marked ws k j h =
     (cases_eq (j / 64) (k / 64))
 
 -- what a change of place j leaves of the form of words
-words_marked : (ws : List ℕ) (j : ℕ) → length ws ≡ 3 → j < 192 → AllByRecursion (λ w. w < 2 ^ 64) ws → AllByRecursion (λ w. w < 2 ^ 64) (marked ws j)
+words_marked : (ws : List ℕ) (j : ℕ) → length ws ≡ 3 → j < 192 → All (λ w. w < 2 ^ 64) ws → All (λ w. w < 2 ^ 64) (marked ws j)
 unfolding marked
 words_marked ws j three h all =
     All-set (λ w. w < 2 ^ 64) ws (j / 64) (bit_xor (get_or ws (j / 64) 0) (2 ^ (j % 64)))
@@ -117,7 +100,7 @@ pub marks_none : (ds : List ℕ) (p : Set) → ((u : ℕ) → has ds u ≡ true 
 unfolding bit_at
 marks_none ds p h = record {
   three = refl;
-  words = (lit< tt, (lit< tt, (lit< tt, tt)));
+  words = All-replicate (λ w. w < 2 ^ 64) 3 0 (lit< tt);
   each = λ j. zero_bit (j / 64) (j % 64) ∙ sym (at_none ds p j h);
 }
   where
@@ -185,3 +168,63 @@ marks_skip ds p ws j h off m = record {
     and_off : (b : Bool) → (b && false) ≡ false
     and_off true = refl
     and_off false = refl
+
+-- ---- the marks of a row, where some of it is left to look at
+
+-- nothing of the row is marked yet
+pub none_looked_at : (ds row : List ℕ) → Marks ds (λ w. has row w ⊕ has row w) (replicate 3 0)
+none_looked_at ds row = marks_none ds (λ w. has row w ⊕ has row w) (λ w _. twice (has row w))
+  where
+    twice : (b : Bool) → (b ⊕ b) ≡ false
+    twice true = refl
+    twice false = refl
+
+-- one of the row that stands among the list
+pub next_marked : (ds row us ws : List ℕ) (j u : ℕ) → Apart ds → length ds ≤ 144 → Apart (u ∷ us) → j < length ds → get_or ds j 0 ≡ u
+    → Marks ds (λ w. has row w ⊕ has (u ∷ us) w) ws → Marks ds (λ w. has row w ⊕ has us w) (marked ws j)
+next_marked ds row us ws j u a few b h is m =
+    marks_same ds (λ w. (has row w ⊕ has (u ∷ us) w) ⊕ eqb u w) (λ w. has row w ⊕ has us w) (marked ws j)
+    (λ w _. ap (λ t. (has row w ⊕ t) ⊕ eqb u w) (has_first u us w b) ∙ taken_out (has row w) (has us w) (eqb u w))
+    (marks_toggled ds (λ w. has row w ⊕ has (u ∷ us) w) ws j u a few h is m)
+  where
+    taken_out : (x y z : Bool) → ((x ⊕ (y ⊕ z)) ⊕ z) ≡ (x ⊕ y)
+    taken_out true true true = refl
+    taken_out true true false = refl
+    taken_out true false true = refl
+    taken_out true false false = refl
+    taken_out false true true = refl
+    taken_out false true false = refl
+    taken_out false false true = refl
+    taken_out false false false = refl
+
+-- one that does not
+pub next_passed : (ds row us ws : List ℕ) (u : ℕ) → Apart (u ∷ us) → has ds u ≡ false → Marks ds (λ w. has row w ⊕ has (u ∷ us) w) ws → Marks ds (λ w. has row w ⊕ has us w) ws
+next_passed ds row us ws u b off m =
+    marks_same ds (λ w. has row w ⊕ has (u ∷ us) w) (λ w. has row w ⊕ has us w) ws
+    (λ w h. ap (λ t. has row w ⊕ t) (has_first u us w b ∙ ap (λ t. has us w ⊕ t) (ne_eqb u w (λ e. both_ways (has ds w) (ap (has ds) (sym e) ∙ off) h)) ∙ plus_zero (has us w)))
+    m
+
+-- ---- where a number stands in a list
+
+-- the place of a number is within the list if the list has it
+placed : (xs : List ℕ) (u : ℕ) → has xs u ≡ ltb (prefix_len (λ x. not (eqb x u)) xs) (length xs)
+placed [] u = sym (le-ltb 0 0 (omega arith))
+placed (x ∷ xs) u = part (eqb x u) (placed xs u)
+  where
+    n : ℕ
+    n = prefix_len (λ x. not (eqb x u)) xs
+
+    part : (b : Bool) → has xs u ≡ ltb n (length xs) → (b || has xs u) ≡ ltb (cond (not b) (1 + n) 0) (suc (length xs))
+    part true h = sym (lt-ltb 0 (suc (length xs)) (omega arith))
+    part false e = e ∙ ⊎_elim (λ (h : n < length xs). lt-ltb n (length xs) h ∙ sym (lt-ltb (1 + n) (suc (length xs)) (omega arith))) (λ (h : length xs ≤ n). le-ltb n (length xs) h ∙ sym (le-ltb (1 + n) (suc (length xs)) (omega arith))) (cases_lt n (length xs))
+
+-- no place is found for a number that the list has not
+pub no_place : (xs : List ℕ) (u : ℕ) → position (λ x. eqb x u) xs ≡ None → has xs u ≡ false
+no_place xs u e = placed xs u ∙ part (ltb n (length xs)) e
+  where
+    n : ℕ
+    n = prefix_len (λ x. not (eqb x u)) xs
+
+    part : (b : Bool) → cond b (Some n) None ≡ None → b ≡ false
+    part true h = absurd (cc)
+    part false h = refl

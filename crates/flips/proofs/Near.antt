@@ -1,8 +1,8 @@
 -- What the sets of some qubits leave of the checks near them, and of all checks. Assumes nothing.
 use Rattle.std.proofs.Common.{◌≡◌, ℕ, ◌+◌, ◌*◌, ◌/◌, ◌%◌, ◌^◌, ◌<◌, ◌≤◌, Bool, true, false, not, ◌&&◌, ◌||◌, eqb, List, [], ◌∷◌, length, get_or, sym, refl, ap, ◌∙◌, subst, ap₂, ⊎_elim, arith}
 use lib.Count.{ones}
-use Rattle.std.specs.List.{AllByRecursion}
-use Rattle.std.proofs.ByRecursion.{All-get_or}
+use Rattle.std.specs.List.{All}
+use Rattle.std.proofs.lemmas.List.Elements.{All-head, All-tail, All-get_or}
 use Rattle.std.proofs.lemmas.Bool.{cases_Bool, both_ways, eqb-true, and_right}
 use Rattle.patterns.specs.Sets.{Set, ◌⊕◌, has, parity, Apart, tally}
 use Rattle.patterns.specs.Patterns.{bit, member, added, Well}
@@ -68,12 +68,12 @@ apart_picked (b ∷ bs) [] h = tt
 apart_picked (true ∷ bs) (x ∷ xs) h = (above_none x (pick bs xs) (all_picked (λ y. x < y) bs xs h.0), apart_picked bs xs h.1)
 apart_picked (false ∷ bs) (x ∷ xs) h = apart_picked bs xs h.1
 
-pub all_has : (P : ℕ → Type 0) (s : List ℕ) (v : ℕ) → AllByRecursion P s → has s v ≡ true → P v
+pub all_has : (P : ℕ → Type 0) (s : List ℕ) (v : ℕ) → All P s → has s v ≡ true → P v
 all_has P [] v h k = absurd (both_ways false refl k)
-all_has P (y ∷ s) v h k = ⊎_elim (λ e. subst P (eqb-true y v e) h.0) (λ e. all_has P s v h.1 (sym (ap (λ t. t || has s v) e) ∙ k)) (cases_Bool (eqb y v))
+all_has P (y ∷ s) v h k = ⊎_elim (λ e. subst P (eqb-true y v e) (All-head P y s h)) (λ e. all_has P s v (All-tail P y s h) (sym (ap (λ t. t || has s v) e) ∙ k)) (cases_Bool (eqb y v))
 
 -- the syndrome of a set, told from its qubits
-pub syndrome_by_qubits : (c : Layout) → Sound c → (s : List ℕ) → Apart s → AllByRecursion (λ v. v < c.qubits) s → (u : ℕ) → u < c.checks → parity (has s) (c.of_check u) ≡ toggles c s u
+pub syndrome_by_qubits : (c : Layout) → Sound c → (s : List ℕ) → Apart s → All (λ v. v < c.qubits) s → (u : ℕ) → u < c.checks → parity (has s) (c.of_check u) ≡ toggles c s u
 syndrome_by_qubits c sound s a within u h =
     parity_swap s (c.of_check u) a (sound.by_check.row_apart u h)
     ∙ parity_same (has (c.of_check u)) (λ v. has (c.checks_of v) u) s (λ v k. sound.by_check.same u v h (all_has (λ v. v < c.qubits) s v within k))
@@ -81,17 +81,17 @@ syndrome_by_qubits c sound s a within u h =
 -- The local problem of some rising qubits xs: ds are the checks that meet them, start what remains of these, rows what each qubit changes.
 pub record Local (c : Layout) (remaining : Set) (xs ds : List ℕ) (start : List ℕ) (rows : List (List ℕ)) : Type 0 where
   pub rises : Rising xs
-  pub within : AllByRecursion (λ v. v < c.qubits) xs
+  pub within : All (λ v. v < c.qubits) xs
   pub apart : Apart ds
-  pub checks : AllByRecursion (λ u. u < c.checks) ds
+  pub checks : All (λ u. u < c.checks) ds
   pub few : length ds ≤ 144
-  pub meets : (u : ℕ) → has ds u ≡ false → AllByRecursion (λ v. has (c.checks_of v) u ≡ false) xs
+  pub meets : (u : ℕ) → has ds u ≡ false → All (λ v. has (c.checks_of v) u ≡ false) xs
   pub starts : Marks ds remaining start
   pub by_row : Rows c ds xs rows
 
-none_toggled : (c : Layout) (s : List ℕ) (u : ℕ) → AllByRecursion (λ v. has (c.checks_of v) u ≡ false) s → toggles c s u ≡ false
+none_toggled : (c : Layout) (s : List ℕ) (u : ℕ) → All (λ v. has (c.checks_of v) u ≡ false) s → toggles c s u ≡ false
 none_toggled c [] u h = refl
-none_toggled c (v ∷ s) u h = ap₂ ◌⊕◌ h.0 (none_toggled c s u h.1)
+none_toggled c (v ∷ s) u h = let P : ℕ → Type 0 = λ w. has (c.checks_of w) u ≡ false in ap₂ ◌⊕◌ (All-head P v s h) (none_toggled c s u (All-tail P v s h))
 
 -- the weight left, as a number of checks
 left_tally : (c : Layout) (r f : List ℕ) → Well c.checks r → left_by c r f ≡ tally c.checks (λ u. member r u ⊕ parity (has f) (c.of_check u))

@@ -1,79 +1,25 @@
 -- Lists that rise. Assumes nothing.
-use Rattle.std.proofs.Common.{◌≡◌, ℕ, zero, suc, ◌+◌, ◌<◌, ◌≤◌, Bool, true, false, cond, ◌&&◌, ◌||◌, eqb, ltb, ◌⊎◌, List, [], ◌∷◌, ◌++◌, length, get_or, take, drop, set, sym, refl, ap, ◌∙◌, subst, ap₂, inl, inr, ⊎_elim, append_assoc, append-nil, arith, take_all}
-use Rattle.std.specs.List.{AllByRecursion}
-use Rattle.std.proofs.lemmas.List.{at_drop_more, at_drop_all, take_more, take_more_set}
-use Rattle.std.proofs.ByRecursion.{All-weaker, All-append}
-use Rattle.std.proofs.lemmas.Bool.{lt-ltb, le-ltb, ne_eqb, eqb-true, eqb-false, ltb-true, ltb-false, cases_eq, cases_lt, both_ways, or_cases, or_parts, and_right}
+use Rattle.std.proofs.Common.{◌≡◌, ℕ, zero, suc, ◌+◌, ◌<◌, ◌≤◌, Bool, true, false, cond, ◌&&◌, ◌||◌, eqb, ltb, ◌⊎◌, List, [], ◌∷◌, ◌++◌, length, filter, get_or, sym, refl, ap, ◌∙◌, subst, ap₂, inl, inr, ⊎_elim, append-nil, arith}
+use Rattle.std.specs.List.{All, count_by}
+use Rattle.std.specs.List.Sorted.{IsPermutation, IsNonDecreasing}
+use Rattle.std.proofs.lemmas.List.Sorted.{sum_by-IsPermutation}
+use Rattle.std.proofs.lemmas.List.Sums.{sum_by-cons}
+use Rattle.std.proofs.lemmas.List.Elements.{All-nil, All-cons, All-head, All-tail, All-push, All-weaker, All-append, All-from_get_or}
+use Rattle.std.proofs.lemmas.Bool.{eq-eqb, lt-ltb, le-ltb, ne_eqb, eqb-true, ltb-true, ltb-false, cases_eq, cases_lt, both_ways, or_cases, and_right}
 use Rattle.codes.specs.Layouts.{Layout, Sound}
 use Rattle.patterns.specs.Sets.{Set, has, Apart, members}
 use Rattle.patterns.proofs.Lists.{has_here, has_members}
+use Rattle.flips.proofs.Gathered.{has_get_d}
 use Rattle.best_sets.specs.Rising.{Rising}
-use Rattle.flips.specs.Local.{carried}
 use Rattle.flips.specs.Flips.{open_in}
-use Rattle.flips.proofs.Gathered.{has_push, fresh}
 
--- the turns of an insertion
-module _ (q E all : List ℕ) (i h : ℕ) (inE : i < length E) (inq : i < length q) (same : get_or q i 0 ≡ get_or E i 0) where
-  pub insert_swap : h < get_or q i 0 → take i q ++ carried h (drop i E) ≡ all → take (i + 1) (set q i h) ++ carried (get_or q i 0) (drop (i + 1) E) ≡ all
-  insert_swap less e =
-      let x = get_or E i 0 in
-      let R = carried x (drop (i + 1) E) in
-      let test : ltb h x ≡ true = lt-ltb h x (omega arith) in
-      let turn : carried h (drop i E) ≡ h ∷ R = at_drop_more (carried h) E i 0 inE ∙ ap (λ b. cond b (h ∷ carried x (drop (i + 1) E)) (x ∷ carried h (drop (i + 1) E))) test in
-      ap₂ (λ l y. l ++ carried y (drop (i + 1) E)) (take_more_set q i h inq) same ∙ append_assoc (take i q) (h ∷ []) R ∙ ap (λ l. take i q ++ l) (sym turn) ∙ e
-
-  pub insert_keep : get_or q i 0 ≤ h → take i q ++ carried h (drop i E) ≡ all → take (i + 1) q ++ carried h (drop (i + 1) E) ≡ all
-  insert_keep more e =
-      let x = get_or E i 0 in
-      let R = carried h (drop (i + 1) E) in
-      let test : ltb h x ≡ false = le-ltb h x (omega arith) in
-      let turn : carried h (drop i E) ≡ x ∷ R = at_drop_more (carried h) E i 0 inE ∙ ap (λ b. cond b (h ∷ carried x (drop (i + 1) E)) (x ∷ carried h (drop (i + 1) E))) test in
-      ap (λ l. l ++ R) (take_more q i 0 inq ∙ ap (λ y. take i q ++ y ∷ []) same) ∙ append_assoc (take i q) (x ∷ []) R ∙ ap (λ l. take i q ++ l) (sym turn) ∙ e
-
-pub insert_end : (q E all : List ℕ) (i h : ℕ) → length E ≤ i → i < length q → take i q ++ carried h (drop i E) ≡ all → take (i + 1) (set q i h) ≡ all
-insert_end q E all i h out inq e = take_more_set q i h inq ∙ ap (λ l. take i q ++ l) (sym (at_drop_all (carried h) E i out)) ∙ e
-
-pub has_carried : (v : ℕ) (xs : List ℕ) (w : ℕ) → has (carried v xs) w ≡ (eqb v w || has xs w)
-has_carried v [] w = refl
-has_carried v (x ∷ xs) w = part (ltb v x) (has_carried x xs w) (has_carried v xs w)
-  where
-    swap : (a b c : Bool) → (a || (b || c)) ≡ (b || (a || c))
-    swap true true c = refl
-    swap true false c = refl
-    swap false true c = refl
-    swap false false c = refl
-
-    part : (b : Bool) → has (carried x xs) w ≡ (eqb x w || has xs w) → has (carried v xs) w ≡ (eqb v w || has xs w) → has (cond b (v ∷ carried x xs) (x ∷ carried v xs)) w ≡ (eqb v w || (eqb x w || has xs w))
-    part true p r = ap (λ b. eqb v w || b) p
-    part false p r = ap (λ b. eqb x w || b) r ∙ swap (eqb x w) (eqb v w) (has xs w)
-
-all_carried : (P : ℕ → Type 0) (v : ℕ) (xs : List ℕ) → P v → AllByRecursion P xs → AllByRecursion P (carried v xs)
-all_carried P v [] p h = (p, tt)
-all_carried P v (x ∷ xs) p h = part (ltb v x) (all_carried P x xs h.0 h.1) (all_carried P v xs p h.1)
-  where
-    part : (b : Bool) → AllByRecursion P (carried x xs) → AllByRecursion P (carried v xs) → AllByRecursion P (cond b (v ∷ carried x xs) (x ∷ carried v xs))
-    part true q r = (p, q)
-    part false q r = (h.0, r)
-
-pub above_none : (x : ℕ) (s : List ℕ) → AllByRecursion (λ y. x < y) s → has s x ≡ false
+pub above_none : (x : ℕ) (s : List ℕ) → All (λ y. x < y) s → has s x ≡ false
 above_none x [] h = refl
-above_none x (y ∷ s) h = ap₂ ◌||◌ (ne_eqb y x (λ e. let k = h.0 in omega arith)) (above_none x s h.1)
+above_none x (y ∷ s) h = let k = All-head (λ z. x < z) y s h in ap₂ ◌||◌ (ne_eqb y x (λ e. omega arith)) (above_none x s (All-tail (λ z. x < z) y s h))
 
-pub rises_carried : (v : ℕ) (xs : List ℕ) → Rising xs → has xs v ≡ false → Rising (carried v xs)
-rises_carried v [] h f = (tt, tt)
-rises_carried v (x ∷ xs) h f = part (ltb v x) refl (rises_carried x xs h.1 (above_none x xs h.0)) (rises_carried v xs h.1 (or_parts (eqb x v) (has xs v) f).1)
-  where
-    part : (b : Bool) → ltb v x ≡ b → Rising (carried x xs) → Rising (carried v xs) → Rising (cond b (v ∷ carried x xs) (x ∷ carried v xs))
-    part true e p q = let l = ltb-true v x e in (all_carried (λ y. v < y) x xs l (All-weaker (λ y. x < y) (λ y. v < y) (λ y k. omega arith) xs h.0), p)
-    part false e p q =
-        let l = ltb-false v x e in
-        let other = eqb-false x v (or_parts (eqb x v) (has xs v) f).0 in
-        let more : x < v = ⊎_elim (λ (z : x < v). z) (λ (z : v ≤ x). absurd (other (omega arith))) (cases_lt x v) in
-        (all_carried (λ y. x < y) v xs more h.0, q)
-
-below_all : (x : ℕ) (s : List ℕ) (w : ℕ) → AllByRecursion (λ y. x < y) s → has s w ≡ true → x < w
+below_all : (x : ℕ) (s : List ℕ) (w : ℕ) → All (λ y. x < y) s → has s w ≡ true → x < w
 below_all x [] w h k = absurd (both_ways false refl k)
-below_all x (y ∷ s) w h k = ⊎_elim (λ e. let z = eqb-true y w e in let q = h.0 in omega arith) (λ e. below_all x s w h.1 e) (or_cases (eqb y w) (has s w) k)
+below_all x (y ∷ s) w h k = let q = All-head (λ z. x < z) y s h in ⊎_elim (λ e. let z = eqb-true y w e in omega arith) (λ e. below_all x s w (All-tail (λ z. x < z) y s h) e) (or_cases (eqb y w) (has s w) k)
 
 pub rising_unique : (xs ys : List ℕ) → Rising xs → Rising ys → ((w : ℕ) → has xs w ≡ has ys w) → xs ≡ ys
 rising_unique [] [] h k e = refl
@@ -91,18 +37,18 @@ rising_unique (x ∷ xs) (y ∷ ys) h k e =
 
 -- ---- the members of a set, in rising order
 
-members_below : (n : ℕ) (s : Set) → AllByRecursion (λ y. y < n) (members n s)
-members_below zero s = tt
+members_below : (n : ℕ) (s : Set) → All (λ y. y < n) (members n s)
+members_below zero s = All-nil (λ y. y < 0)
 members_below (suc n) s =
     All-append (λ y. y < suc n) (members n s) (cond (s n) (n ∷ []) []) (All-weaker (λ y. y < n) (λ y. y < suc n) (λ y k. omega arith) (members n s) (members_below n s)) (part (s n))
   where
-    part : (b : Bool) → AllByRecursion (λ y. y < suc n) (cond b (n ∷ []) [])
-    part true = (omega arith, tt)
-    part false = tt
+    part : (b : Bool) → All (λ y. y < suc n) (cond b (n ∷ []) [])
+    part true = All-cons (λ y. y < suc n) n [] (omega arith) (All-nil (λ y. y < suc n))
+    part false = All-nil (λ y. y < suc n)
 
-rises_append : (xs : List ℕ) (n : ℕ) → Rising xs → AllByRecursion (λ y. y < n) xs → Rising (xs ++ n ∷ [])
-rises_append [] n h k = (tt, tt)
-rises_append (x ∷ xs) n h k = (All-append (λ y. x < y) xs (n ∷ []) h.0 (k.0, tt), rises_append xs n h.1 k.1)
+rises_append : (xs : List ℕ) (n : ℕ) → Rising xs → All (λ y. y < n) xs → Rising (xs ++ n ∷ [])
+rises_append [] n h k = (All-nil (λ y. n < y), tt)
+rises_append (x ∷ xs) n h k = (All-push (λ y. x < y) xs n h.0 (All-head (λ y. y < n) x xs k), rises_append xs n h.1 (All-tail (λ y. y < n) x xs k))
 
 pub rises_members : (n : ℕ) (s : Set) → Rising (members n s)
 rises_members zero s = tt
@@ -115,7 +61,7 @@ rises_members (suc n) s = part (s n) (rises_members n s)
 pub rises_open : (c : Layout) (s : Set) (g : ℕ) → Rising (open_in c s g)
 rises_open c s g = rises_members c.qubits (λ v. has (c.of_generator g) v && s v)
 
-pub open_within : (c : Layout) (s : Set) (g : ℕ) → AllByRecursion (λ v. v < c.qubits) (open_in c s g)
+pub open_within : (c : Layout) (s : Set) (g : ℕ) → All (λ v. v < c.qubits) (open_in c s g)
 open_within c s g = members_below c.qubits (λ v. has (c.of_generator g) v && s v)
 
 pub has_open : (c : Layout) → Sound c → (s : Set) (g : ℕ) → g < c.generators → (w : ℕ) → has (open_in c s g) w ≡ (s w && has (c.of_generator g) w)
@@ -127,36 +73,80 @@ has_open c sound s g h w = has_members c.qubits (λ v. has (c.of_generator g) v 
     part false true e = and_right (ltb w c.qubits) false refl
     part false false e = and_right (ltb w c.qubits) false refl
 
--- one more qubit of a row looked at
-module _ (m : Set) (row T : List ℕ) (k v : ℕ) (here : k < length row) (is : get_or row k 0 ≡ v) (so_far : (w : ℕ) → has T w ≡ (m w && has (take k row) w)) where
-  next : (w : ℕ) → has (take (k + 1) row) w ≡ (has (take k row) w || eqb v w)
-  next w = ap (λ l. has l w) (take_more row k 0 here ∙ ap (λ x. take k row ++ x ∷ []) is) ∙ has_push (take k row) v w
+-- ---- a sort of the open qubits
 
-  pub open_more : true ≡ m v → (w : ℕ) → has (carried v T) w ≡ (m w && has (take (k + 1) row) w)
-  open_more on w = has_carried v T w ∙ ap (λ b. eqb v w || b) (so_far w) ∙ part (eqb v w) refl (m w) refl (has (take k row) w) ∙ sym (ap (λ b. m w && b) (next w))
-    where
-      part : (e : Bool) → eqb v w ≡ e → (a : Bool) → m w ≡ a → (b : Bool) → (e || (a && b)) ≡ (a && (b || e))
-      part true q true r true = refl
-      part true q true r false = refl
-      part true q false r b = absurd (both_ways (m w) r (ap m (sym (eqb-true v w q)) ∙ sym on))
-      part false q true r true = refl
-      part false q true r false = refl
-      part false q false r b = refl
+-- how often a number stands in a list
+abbrev times : ℕ → List ℕ → ℕ
+times w xs = count_by (λ x. eqb x w) xs
 
-  pub open_skip : false ≡ m v → (w : ℕ) → has T w ≡ (m w && has (take (k + 1) row) w)
-  open_skip off w = so_far w ∙ part (eqb v w) refl (m w) refl (has (take k row) w) ∙ sym (ap (λ b. m w && b) (next w))
-    where
-      part : (e : Bool) → eqb v w ≡ e → (a : Bool) → m w ≡ a → (b : Bool) → (a && b) ≡ (a && (b || e))
-      part true q true r b = absurd (both_ways (m w) (ap m (sym (eqb-true v w q)) ∙ sym off) r)
-      part true q false r b = refl
-      part false q true r true = refl
-      part false q true r false = refl
-      part false q false r b = refl
+-- one number more at the front
+times_more : (w x : ℕ) (xs : List ℕ) → times w (x ∷ xs) ≡ cond (eqb x w) 1 0 + times w xs
+times_more w x xs = sum_by-cons (λ y. cond (eqb y w) 1 0) x xs
 
-  pub none_yet : Apart row → has T v ≡ false
-  none_yet a = so_far v ∙ and_right (m v) (has (take k row) v) (ap (has (take k row)) (sym is) ∙ fresh row k a here)
+-- a list has what stands in it at least once
+times_has : (w : ℕ) (xs : List ℕ) → has xs w ≡ ltb 0 (times w xs)
+times_has w [] = sym (le-ltb 0 0 (omega arith))
+times_has w (x ∷ xs) = part (eqb x w) (times_has w xs) ∙ ap (ltb 0) (sym (times_more w x xs))
+  where
+    part : (b : Bool) → has xs w ≡ ltb 0 (times w xs) → (b || has xs w) ≡ ltb 0 (cond b 1 0 + times w xs)
+    part true e = sym (lt-ltb 0 (1 + times w xs) (omega arith))
+    part false e = e ∙ ap (ltb 0) (let z : times w xs ≡ 0 + times w xs = omega arith in z)
 
--- the whole row looked at
-pub open_all : (c : Layout) → Sound c → (s : Set) (g k : ℕ) (T : List ℕ) → g < c.generators → length (c.of_generator g) ≤ k → Rising T → ((w : ℕ) → has T w ≡ (s w && has (take k (c.of_generator g)) w)) → T ≡ open_in c s g
-open_all c sound s g k T h end rises so_far =
-    rising_unique T (open_in c s g) rises (rises_open c s g) (λ w. so_far w ∙ ap (λ l. s w && has l w) (take_all k (c.of_generator g) end) ∙ sym (has_open c sound s g h w))
+-- in a list without repeats nothing stands twice
+times_apart : (w : ℕ) (xs : List ℕ) → Apart xs → times w xs ≤ 1
+times_apart w [] a = omega arith
+times_apart w (x ∷ xs) a = part (eqb x w) refl (times_apart w xs a.1)
+  where
+    part : (b : Bool) → eqb x w ≡ b → times w xs ≤ 1 → times w (x ∷ xs) ≤ 1
+    part true e le =
+        let none : times w xs ≤ 0 = ltb-false 0 (times w xs) (sym (times_has w xs) ∙ ap (has xs) (sym (eqb-true x w e)) ∙ a.0) in
+        omega (arith, times_more w x xs, ap {B = ℕ} (λ b. cond b 1 0) e, none)
+    part false e le = omega (arith, times_more w x xs, ap {B = ℕ} (λ b. cond b 1 0) e)
+
+-- what a test keeps of a list
+has_filter : (s : Set) (xs : List ℕ) (w : ℕ) → has (filter s xs) w ≡ (s w && has xs w)
+has_filter s [] w = sym (and_right (s w) false refl)
+has_filter s (x ∷ xs) w = part (s x) refl (eqb x w) refl (s w) refl (has xs w) (has_filter s xs w)
+  where
+    part : (a : Bool) → s x ≡ a → (e : Bool) → eqb x w ≡ e → (b : Bool) → s w ≡ b → (t : Bool) → has (filter s xs) w ≡ (s w && t) → has (cond a (x ∷ filter s xs) (filter s xs)) w ≡ (b && (e || t))
+    part true p true q true r t h = ap (λ z. z || has (filter s xs) w) q
+    part true p true q false r t h = absurd (both_ways (s w) r (ap s (sym (eqb-true x w q)) ∙ p))
+    part true p false q b r t h = ap (λ z. z || has (filter s xs) w) q ∙ h ∙ ap (λ z. z && t) r
+    part false p true q true r t h = absurd (both_ways (s x) p (ap s (eqb-true x w q) ∙ r))
+    part false p true q false r t h = h ∙ ap (λ z. z && t) r
+    part false p false q b r t h = h ∙ ap (λ z. z && t) r
+
+-- what a test keeps of a list without repeats has none
+kept_apart : (s : Set) (xs : List ℕ) → Apart xs → Apart (filter s xs)
+kept_apart s [] a = tt
+kept_apart s (x ∷ xs) a = part (s x) (kept_apart s xs a.1)
+  where
+    part : (b : Bool) → Apart (filter s xs) → Apart (cond b (x ∷ filter s xs) (filter s xs))
+    part true k = (has_filter s xs x ∙ and_right (s x) (has xs x) a.0, k)
+    part false k = k
+
+-- a list in order, where nothing stands twice, rises
+rises_sorted : (xs : List ℕ) → IsNonDecreasing xs → ((w : ℕ) → times w xs ≤ 1) → Rising xs
+rises_sorted [] up once = tt
+rises_sorted (x ∷ xs) up once = (
+  All-from_get_or (λ y. x < y) xs 0 (λ i h. above i h (cases_lt x (get_or xs i 0))),
+  rises_sorted xs (λ i j d le lt. up (suc i) (suc j) d (omega arith) (omega arith)) (λ w. omega (arith, times_more w x xs, once w)),
+)
+  where
+    above : (i : ℕ) → i < length xs → (x < get_or xs i 0) ⊎ (get_or xs i 0 ≤ x) → x < get_or xs i 0
+    above i h (inl l) = l
+    above i h (inr le) =
+        let low : x ≤ get_or xs i 0 = up 0 (suc i) 0 (omega arith) (omega arith) in
+        let same : get_or xs i 0 ≡ x = omega arith in
+        let there : has xs x ≡ true = ap (has xs) (sym same) ∙ has_get_d xs i h in
+        let twice : 0 < times x xs = ltb-true 0 (times x xs) (sym (times_has x xs) ∙ there) in
+        absurd (omega (arith, times_more x x xs, ap {B = ℕ} (λ b. cond b 1 0) (eq-eqb x x refl), once x))
+
+-- the open ones of a generator's qubits, once they are in order
+pub open_sorted : (c : Layout) → Sound c → (s : Set) (g : ℕ) (xs : List ℕ) → g < c.generators → IsPermutation (filter s (c.of_generator g)) xs → IsNonDecreasing xs → xs ≡ open_in c s g
+open_sorted c sound s g xs h moved up =
+    let row = c.of_generator g in
+    let same : (w : ℕ) → times w xs ≡ times w (filter s row) = λ w. sum_by-IsPermutation (λ y. cond (eqb y w) 1 0) (filter s row) xs moved in
+    let once : (w : ℕ) → times w xs ≤ 1 = λ w. omega (arith, same w, times_apart w (filter s row) (kept_apart s row (sound.by_generator.row_apart g h))) in
+    rising_unique xs (open_in c s g) (rises_sorted xs up once) (rises_open c s g)
+    (λ w. times_has w xs ∙ ap (ltb 0) (same w) ∙ sym (times_has w (filter s row)) ∙ has_filter s row w ∙ sym (has_open c sound s g h w))

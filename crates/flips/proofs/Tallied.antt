@@ -1,6 +1,7 @@
 -- How many of some numbers are in a set: those of a list, and the others. Assumes nothing.
 use Rattle.std.proofs.Common.{◌≡◌, ℕ, zero, suc, ◌+◌, ◌<◌, ◌≤◌, Bool, true, false, not, ◌&&◌, ◌||◌, eqb, List, [], ◌∷◌, length, sym, refl, ap, ◌∙◌, ap₂, ⊎_elim, arith}
-use Rattle.std.specs.List.{AllByRecursion}
+use Rattle.std.specs.List.{All}
+use Rattle.std.proofs.lemmas.List.Elements.{All-head, All-tail}
 use Rattle.std.proofs.lemmas.Bool.{eq-eqb, ne_eqb, cases_eq, or_right, both_ways}
 use Rattle.patterns.specs.Sets.{Set, has, Apart, tally}
 use Rattle.patterns.proofs.Weighed.{tally_same, tally_none, tally_split}
@@ -57,14 +58,14 @@ counted_same s t [] h = refl
 counted_same s t (d ∷ ds) h = ap₂ (λ b m. one_if b + m) (h d (ap (λ b. b || has ds d) (eq-eqb d d refl))) (counted_same s t ds (λ u k. h u (or_right (eqb d u) (has ds u) k)))
 
 -- those of a list, and the others
-pub within_and_off : (n : ℕ) (ds : List ℕ) (s : Set) → Apart ds → AllByRecursion (λ d. d < n) ds → tally n s ≡ tally n (λ u. s u && not (has ds u)) + counted s ds
+pub within_and_off : (n : ℕ) (ds : List ℕ) (s : Set) → Apart ds → All (λ d. d < n) ds → tally n s ≡ tally n (λ u. s u && not (has ds u)) + counted s ds
 within_and_off n [] s a h = omega (arith, tally_same n s (λ u. s u && not (has [] u)) (λ k l. sym (and_on (s k))))
 within_and_off n (d ∷ ds) s a h =
     let t : Set = λ u. s u && not (eqb d u) in
-    let rest = within_and_off n ds t a.1 h.1 in
+    let rest = within_and_off n ds t a.1 (All-tail (λ x. x < n) d ds h) in
     let off = tally_same n (λ u. t u && not (has ds u)) (λ u. s u && not (has (d ∷ ds) u)) (λ k l. joined (s k) (eqb d k) (has ds k)) in
     let others = counted_same t s ds (λ u k. ap (λ b. s u && not b) (ne_eqb d u (λ e. both_ways (has ds u) (ap (has ds) (sym e) ∙ a.0) k)) ∙ and_on (s u)) in
-    omega (arith, without n d s h.0, rest, off, others)
+    omega (arith, without n d s (All-head (λ x. x < n) d ds h), rest, off, others)
   where
     joined : (x y z : Bool) → ((x && not y) && not z) ≡ (x && not (y || z))
     joined true true z = refl

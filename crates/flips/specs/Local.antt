@@ -1,6 +1,6 @@
 -- The checks near some qubits, and sets of them as bits of three words. Assumes nothing.
-use Rattle.std.specs.Prelude.{◌≡◌, ℕ, zero, suc, ◌-◌, ◌/◌, ◌%◌, ◌^◌, ◌<◌, Bool, false, cond, List, [], ◌∷◌, ◌++◌, length, bit_xor, nat_lt, slice_index, slice_set}
-use Rattle.std.specs.List.{AllByRecursion}
+use Rattle.std.specs.Prelude.{◌≡◌, ℕ, zero, suc, ◌-◌, ◌/◌, ◌%◌, ◌^◌, ◌<◌, Bool, false, cond, List, [], ◌∷◌, ◌++◌, length, bit_xor, slice_index, slice_set}
+use Rattle.std.specs.List.{All}
 use Rattle.patterns.specs.Sets.{Set, has}
 use Rattle.patterns.specs.Patterns.{bit}
 use Rattle.best_sets.specs.Best.{best_set}
@@ -37,17 +37,12 @@ at (d ∷ ds) p (suc j) = at ds p j
 -- three words have a one at the places of those of ds that are in p, and nowhere else
 pub record Marks (ds : List ℕ) (p : Set) (ws : List ℕ) : Type 0 where
   pub three : length ws ≡ 3
-  pub words : AllByRecursion (λ w. w < 2 ^ 64) ws
+  pub words : All (λ w. w < 2 ^ 64) ws
   pub each : (j : ℕ) → bit_at ws j ≡ at ds p j
 
 -- 1 for yes, 0 for no
 abbrev pub one_if : Bool → ℕ
 one_if b = cond b 1 0
-
--- v carried to its place in a list that rises
-abbrev pub carried : ℕ → List ℕ → List ℕ
-carried v [] = v ∷ []
-carried v (x ∷ xs) = cond (nat_lt v x) (v ∷ carried x xs) (x ∷ carried v xs)
 
 -- for each qubit of the list, side by side, the places of its checks among ds
 abbrev pub Rows : Layout → List ℕ → List ℕ → List (List ℕ) → Type 0

@@ -5,9 +5,9 @@ ghost use Rattle.flips.specs.Local.{picked};
 ghost use Rattle.flips.specs.Flips.{best_flip};
 ghost use Rattle.flips.specs.Held.{told};
 
-use crate::best::best_of;
+use crate::best::Best;
 use crate::flip::Flip;
-use crate::rising::open_qubits;
+use crate::opened::Opened;
 use codes::code::{Code, Generator};
 use patterns::shapes::{fits, unused_are_zero};
 
@@ -17,27 +17,28 @@ impl Flip {
         ensures value { result.now ≡ (told self.now).1 }
         ensures few { length result.now ≤ 12 }
     {
-        &self.qubits[0..self.size]
+        &self.qubits[..self.size]
     }
 }
 
-// The qubits of the set that has number `picks`, in front of an array, with their count.
-fn selected(qubits: &[u32], picks: u32, fall: u32) -> Flip
-    requires { length qubits.now ≤ 12 }
-    ensures { told result ≡ (fall, picked picks qubits.now) }
-{
-    let mut chosen = [0u32; 12];
-    let mut size = 0;
-    for (i, v) in qubits.iter().enumerate() {
-        if (picks >> (qubits.len() - 1 - i)) % 2 == 1 {
-            chosen[size] = *v;
-            size += 1;
+impl<'a, C: Code> Opened<'a, C> {
+    // The set of the qubits that has the number, with its fall.
+    fn picked(&self, best: Best) -> Flip
+        ensures { told result ≡ (best.fall, picked best.picks self.now.qubits.items) }
+    {
+        let mut chosen = [0; 12];
+        let mut size = 0;
+        for (i, v) in self.qubits.iter().enumerate() {
+            if (best.picks >> (self.qubits.len() - 1 - i)) % 2 == 1 {
+                chosen[size] = *v;
+                size += 1;
+            }
         }
-    }
-    Flip {
-        fall,
-        size,
-        qubits: chosen,
+        Flip {
+            fall: best.fall,
+            size,
+            qubits: chosen,
+        }
     }
 }
 
@@ -49,12 +50,10 @@ pub fn best_flip<C: Code>(code: &C, remaining: &[u8], opened: &[u8], g: Generato
     if !fits(remaining, checks) || !unused_are_zero(remaining, checks) || g.0 >= code.generators() {
         return None;
     }
-    let mut qubits = [0u32; 12];
-    let count = open_qubits(code, opened, g, &mut qubits);
-    let found = &qubits[0..count];
-    let best = best_of(code, remaining, found)?;
+    let open = Opened::of(code, opened, g);
+    let best = open.best(remaining)?;
     if best.fall == 0 {
         return None;
     }
-    Some(selected(found, best.picks, best.fall))
+    Some(open.picked(best))
 }

@@ -2,6 +2,7 @@
 ghost use Rattle.std.specs.Prelude.{◌≤◌};
 
 // By how much it lowers the weight, how many qubits it has, and the qubits, rising, in front of the array.
+// The array has its count beside it because a flip is Copy, which an ArrayVec is not.
 #[derive(Clone, Copy)]
 pub struct Flip {
     pub fall: u32,

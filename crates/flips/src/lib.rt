@@ -6,4 +6,5 @@ pub mod finding;
 pub mod flip;
 mod gathering;
 mod marks;
-mod rising;
+mod opened;
+mod opening;

@@ -1,12 +1,14 @@
 // Sets of local checks as bits of three words: 144 checks take three of 64 bits.
-ghost use Rattle.std.specs.Prelude.{◌≡◌, ◌*◌, ◌<◌, ◌≤◌, map, length, take, nat_eq};
+ghost use Rattle.std.specs.Prelude.{◌≡◌, ◌*◌, ◌<◌, ◌≤◌, length, ◌==◌};
+ghost use Rattle.std.specs.List.{position};
 ghost use Rattle.patterns.specs.Sets.{has, Apart};
 ghost use Rattle.patterns.specs.Patterns.{member};
-ghost use Rattle.flips.specs.Local.{Marks, marked, one_if};
+ghost use Rattle.flips.specs.Local.{Marks, marked};
 
-use crate::gathering::place;
+use best_sets::Words;
 use codes::code::{Code, Qubit};
-use codes::limits::MOST_WEIGHT;
+use codes::families::ByCheck;
+use matrices::families::Neighbours;
 use patterns::items::contains;
 
 // Place j marked, or no longer.
@@ -17,43 +19,37 @@ fn mark(words: &mut [u64], j: usize)
     words[j / 64] ^= 1 << (j % 64);
 }
 
+// Where u stands in the list.
+fn place(list: &[u32], u: u32) -> Option<usize>
+    ensures { result ≡ position (λ x. x == u) list.now }
+{
+    list.iter().position(|x| *x == u)
+}
+
 // The places of the checks of v among `checks`.
-pub(crate) fn row<C: Code>(code: &C, v: Qubit, checks: &[u32]) -> [u64; 3]
+pub(crate) fn row<C: Code>(code: &C, v: Qubit, checks: &[u32]) -> Words
     requires v_bound { v.0 < (C.layout code.now).qubits }
     requires checks_len_bound { length checks.now ≤ 144 }
     requires apart { Apart checks.now }
     ensures { Marks checks.now (has ((C.layout code.now).checks_of v.0)) result }
 {
-    let mut words = [0u64; 3];
-    for k in 0..MOST_WEIGHT {
-        let Some(u) = code.qubit_check(v, k) else {
-            break;
-        };
-        if let Some(j) = place(checks, u.0) {
+    let mut words = [0; 3];
+    for u in Neighbours::of(ByCheck { code }, v.0) {
+        if let Some(j) = place(checks, u) {
             mark(&mut words, j);
         }
     }
     words
 }
 
-// For each check 1 where it is in the remaining syndrome, and 0 where it is not.
-pub(crate) fn read_parities(remaining: &[u8], checks: &[u32], parities: &mut [u32])
-    requires { length checks.now ≤ length parities.old }
-    ensures { take (length checks.now) parities.new ≡ map (λ u. one_if (member remaining.now u)) checks.now }
+// The places of the checks that are in the remaining syndrome.
+pub(crate) fn places(remaining: &[u8], checks: &[u32]) -> Words
+    requires { length checks.now ≤ 144 }
+    ensures { Marks checks.now (member remaining.now) result }
 {
+    let mut words = [0; 3];
     for (j, u) in checks.iter().enumerate() {
-        parities[j] = u32::from(contains(remaining, *u));
-    }
-}
-
-// The places of the ones.
-pub(crate) fn packed(parities: &[u32]) -> [u64; 3]
-    requires { length parities.now ≤ 144 }
-    ensures { Marks parities.now (nat_eq 1) result }
-{
-    let mut words = [0u64; 3];
-    for (j, parity) in parities.iter().enumerate() {
-        if *parity == 1 {
+        if contains(remaining, *u) {
             mark(&mut words, j);
         }
     }

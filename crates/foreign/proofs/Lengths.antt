@@ -1,31 +1,23 @@
 -- What is done with a job keeps the lengths of its patterns. Assumes nothing.
-use Rattle.std.proofs.Common.{◌≡◌, ℕ, false, ◌&&◌, ltb, List, [], ◌∷◌, length, Some, None, Ok, Option, sym, refl, ap, ◌∙◌, subst, inl, inr}
+use Rattle.std.proofs.Common.{◌≡◌, ℕ, false, List, [], ◌∷◌, length, Some, None, Ok, Option, sym, refl, ◌∙◌, subst}
 use Rattle.std.proofs.lemmas.Bool.{eqb-true}
 use Rattle.refusals.specs.declared.Refusal.{Refusal}
-use Rattle.refusals.specs.declared.Refusal.TheVariants.{NumberOutOfRange, NotInGenerator, NotAllOpen}
 use Rattle.refusals.specs.Questions.{first_no}
 use Rattle.refusals.proofs.Asking.{first_no_front}
-use Rattle.patterns.specs.Sets.{has}
-use Rattle.patterns.specs.Patterns.{member, width, Well}
+use Rattle.patterns.specs.Patterns.{width, Well}
 use Rattle.patterns.proofs.Packed.{length_pattern}
 use Rattle.codes.specs.Layouts.{Layout}
-use Rattle.scans.specs.Scans.{single, all_in, meeting}
-use Rattle.flips.specs.Flips.{flip_set}
-use Rattle.moves.specs.Moves.{peel_by, flip_by}
-use Rattle.moves.specs.Jobs.{Model, counted, closed, refused_or, pattern_questions, opening, opening_questions, open_of}
+use Rattle.moves.specs.Jobs.{Model, pattern_questions, opening, opening_questions, open_of}
 use Rattle.moves.proofs.Asked.{remaining_fits, opened_fits, correction_width}
 use Rattle.jobs.specs.Moving.{peel, prune, flip}
-use Rattle.jobs.specs.Runs.{run_moves, run_by}
-use Rattle.jobs.specs.Verdicts.{verdict}
-use Rattle.jobs.specs.Calls.{Call, move, run, ask, peeled, pruned, flipped, ran, told, answered_by, call}
+use Rattle.jobs.specs.Calls.{Call as Asked, move, run, ask, call}
 use Rattle.jobs.proofs.Outcomes.{refused_or_either}
 use Rattle.jobs.proofs.Keeping.{after_keeps}
 use Rattle.jobs.proofs.Fits.{Fits, fits_asked, fits_keeps}
-use Rattle.foreign.specs.declared.numbers.Asked.{Asked}
-use Rattle.foreign.specs.declared.numbers.Numbers.{Numbers}
 use Rattle.foreign.specs.declared.calling.Task.{Task}
-use Rattle.foreign.specs.Numbering.{call_of}
-use Rattle.foreign.specs.Tasks.{done_by, Done}
+use Rattle.foreign.specs.declared.calling.Task.TheVariants.{Call, Open}
+use Rattle.foreign.specs.Calling.{meant}
+use Rattle.foreign.specs.Tasks.{done}
 
 -- the patterns of two jobs have the same lengths
 pub record Kept (m n : Model) : Type 0 where
@@ -47,25 +39,17 @@ module _ (c : Layout) (m : Model) where
     correction = well_lengths c.qubits m.correction n.correction a.of_correction b.of_correction;
   }
 
-  accepted_kept : (k : Call) → first_no (pattern_questions c m) ≡ None → Kept m (call c m k).1
+  accepted_kept : (k : Asked) → first_no (pattern_questions c m) ≡ None → Kept m (call c m k).1
   accepted_kept k asked = kept_fits (call c m k).1 (fits_asked c m asked) (after_keeps c (Fits c) (λ _. Unit {0}) (fits_keeps c) (k ∷ []) m (fits_asked c m asked) tt)
 
-  refused_kept : (k : Call) (e : Refusal) → first_no (pattern_questions c m) ≡ Some e → (call c m k).1 ≡ m
-  refused_kept (move (peel u)) e said =
-      ap (λ (o : Option Refusal). (answered_by (λ p. peeled p.0 p.1) (refused_or o m (peel_by c m u (single (meeting c (member m.opened) u))))).1)
-      (first_no_front (pattern_questions c m) ((ltb u c.checks, NumberOutOfRange) ∷ []) e said)
-  refused_kept (move (prune g v)) e said =
-      ap (λ (o : Option Refusal). (answered_by (λ _. pruned) (refused_or o m (Ok tt, counted (closed c m v)))).1)
-      (first_no_front (pattern_questions c m)
-      ((ltb g c.generators && ltb v c.qubits, NumberOutOfRange) ∷ (has (c.of_generator g) v, NotInGenerator) ∷ (all_in (member m.opened) (c.of_generator g), NotAllOpen) ∷ [])
-      e said)
-  refused_kept (move (flip g)) e said =
-      ap (λ (o : Option Refusal). (answered_by (λ p. flipped p.0 p.1) (refused_or o m (flip_by c m (flip_set c m.remaining m.opened g)))).1)
-      (first_no_front (pattern_questions c m) ((ltb g c.generators, NumberOutOfRange) ∷ []) e said)
-  refused_kept run e said = ap (λ (o : Option Refusal). (answered_by ran (refused_or o m (run_by c m (run_moves c m)))).1) said
-  refused_kept ask e said = ap (λ (o : Option Refusal). (answered_by told (refused_or o m (Ok (verdict c m), m))).1) said
+  refused_kept : (k : Asked) (e : Refusal) → first_no (pattern_questions c m) ≡ Some e → (call c m k).1 ≡ m
+  refused_kept (move (peel u)) e said = rw (first_no_front (pattern_questions c m) _ e said) refl
+  refused_kept (move (prune g v)) e said = rw (first_no_front (pattern_questions c m) _ e said) refl
+  refused_kept (move (flip g)) e said = rw (first_no_front (pattern_questions c m) _ e said) refl
+  refused_kept run e said = rw said refl
+  refused_kept ask e said = rw said refl
 
-  call_kept : (k : Call) → Kept m (call c m k).1
+  call_kept : (k : Asked) → Kept m (call c m k).1
   call_kept k = part (first_no (pattern_questions c m)) refl
     where
       part : (o : Option Refusal) → first_no (pattern_questions c m) ≡ o → Kept m (call c m k).1
@@ -81,11 +65,6 @@ module _ (c : Layout) (m : Model) where
         correction = correction_width c m s e asked ∙ sym (length_pattern c.qubits (λ _. false));
       })
 
-  done_by_kept : (a : Option Asked) (syndrome erasure : List ℕ) → Kept m (done_by a c m syndrome erasure).1
-  done_by_kept (Some a) s e = call_kept (call_of a)
-  done_by_kept None s e = open_kept s e
-
-pub done_kept : (o : Option Layout) (m : Model) (t : Task) (x : Numbers × Model) → Done o m t x → Kept m x.1
-done_kept None m t x (inl d) = subst (λ (y : Numbers × Model). Kept m y.1) (sym d) (kept_same m)
-done_kept (Some c) m t x (inl d) = subst (λ (y : Numbers × Model). Kept m y.1) (sym d) (done_by_kept c m t.asked t.syndrome.now t.erasure.now)
-done_kept o m t x (inr d) = subst (λ (y : Numbers × Model). Kept m y.1) (sym d) (kept_same m)
+  pub done_kept : (t : Task) → Kept m (done c m t).1
+  done_kept (Call k) = call_kept (meant k)
+  done_kept (Open s e) = open_kept s.now e.now

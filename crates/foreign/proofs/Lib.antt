@@ -1,3 +1,3 @@
-pub mod Asking
 pub mod Making
+pub mod Doing
 pub mod Lengths

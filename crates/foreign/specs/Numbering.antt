@@ -8,6 +8,8 @@ use Rattle.codes.specs.Layouts.{Layout}
 use Rattle.moves.specs.Jobs.{Model, open_of}
 use Rattle.jobs.specs.Moving.{peel, prune, flip}
 use Rattle.jobs.specs.Calls.{Call, move, run, ask, Answer, refused, peeled, pruned, flipped, ran, told}
+use Rattle.foreign.specs.declared.not_done.NotDone.{NotDone}
+use Rattle.foreign.specs.declared.not_done.NotDone.TheVariants.{NoSuchCode, NoMemory}
 use Rattle.foreign.specs.declared.numbers.Asked.{Asked}
 use Rattle.foreign.specs.declared.numbers.Numbers.{Numbers}
 
@@ -55,9 +57,15 @@ numbered o = (numbers_of o.0, o.1)
 abbrev pub reopened : Layout → Model → List ℕ → List ℕ → Numbers × Model
 reopened c m syndrome erasure = (answer_numbers (λ _. pruned) (open_of c m syndrome erasure).0, (open_of c m syndrome erasure).1)
 
--- where no code was made: 255, or 254 for want of memory
-abbrev pub unmade : Refusal → Numbers
-unmade e = only_refused (cond (number e == 0) 254 255)
+-- where nothing was done: 255 where no code is told, or 254 for want of memory
+abbrev pub not_done_numbers : NotDone → Numbers
+not_done_numbers NoSuchCode = only_refused 255
+not_done_numbers NoMemory = only_refused 254
+
+-- the numbers of what was done, or of why nothing was
+abbrev pub told_numbers : Result Numbers NotDone → Numbers
+told_numbers (Ok n) = n
+told_numbers (Err e) = not_done_numbers e
 
 -- a job of three patterns and a count of moves
 abbrev pub model_of : List ℕ → List ℕ → List ℕ → ℕ → Model

@@ -1,56 +1,74 @@
-// One call on a job, or its opening, with the answer as numbers.
+// Calls on a job, its opening, and what they tell.
 ghost use Rattle.std.specs.Prelude.{◌≡◌};
 ghost use Rattle.moves.specs.Held.{model};
-ghost use Rattle.foreign.specs.Numbering.{numbered, call_of, reopened};
-ghost use Rattle.jobs.specs.Calls.{call, ask};
+ghost use Rattle.jobs.specs.Calls.{call};
+ghost use Rattle.foreign.specs.Calling.{meant, answered};
 ghost use Rattle.foreign.specs.Tasks.{done};
 
-use crate::numbers::{Asked, Numbers};
+use crate::numbers::Numbers;
 use codes::code::{Check, Code, Generator, Qubit};
+use jobs::answers::Run;
 use jobs::run::run;
 use jobs::verdict::verdict;
 use moves::job::Job;
+use refusals::Refusal;
+use verdicts::Verdict;
 
-// Asks for the verdict, which leaves the job as it is.
-fn ask_on<C: Code>(code: &C, job: &Job) -> Numbers
-    ensures { (result, model job.now) ≡ numbered (call (C.layout code.now) (model job.now) ask) }
-{
-    Numbers::of_verdict(verdict(code, job))
+// A move, a run, or the question for the verdict.
+#[derive(Clone, Copy)]
+pub(crate) enum Call {
+    Peel(Check),
+    Prune(Generator, Qubit),
+    Flip(Generator),
+    Run,
+    Ask,
 }
 
-// Makes the call that is asked.
-pub(crate) fn answer_on<C: Code>(code: &C, job: &mut Job, asked: Asked) -> Numbers
-    ensures { (result, model job.new) ≡ numbered (call (C.layout code.now) (model job.old) (call_of asked)) }
-{
-    match asked.call {
-        0 => Numbers::of_peel(job.peel(code, Check(asked.first))),
-        1 => Numbers::of_acceptance(job.prune(code, Generator(asked.first), Qubit(asked.second))),
-        2 => Numbers::of_flip(job.flip(code, Generator(asked.first))),
-        3 => Numbers::of_run(run(code, job)),
-        _ => ask_on(code, job),
+// What an accepted call tells; a prune and an opening tell nothing more than that.
+#[derive(Clone, Copy)]
+pub(crate) enum Answer {
+    Peeled((Qubit, u8)),
+    Accepted,
+    Flipped((u32, u32)),
+    Ran(Run),
+    Stands(Verdict),
+}
+
+impl Call {
+    // Makes the call.
+    fn make<C: Code>(self, code: &C, job: &mut Job) -> Result<Answer, Refusal>
+        ensures { (answered result, model job.new) ≡ call (C.layout code.now) (model job.old) (meant self) }
+    {
+        match self {
+            Call::Peel(u) => job.peel(code, u).map(Answer::Peeled),
+            Call::Prune(g, v) => job.prune(code, g, v).map(|()| Answer::Accepted),
+            Call::Flip(g) => job.flip(code, g).map(Answer::Flipped),
+            Call::Run => run(code, job).map(Answer::Ran),
+            Call::Ask => verdict(code, job).map(Answer::Stands),
+        }
     }
 }
 
-// Opens the job new.
-pub(crate) fn open_on<C: Code>(code: &C, job: &mut Job, syndrome: &[u8], erasure: &[u8]) -> Numbers
-    ensures { (result, model job.new) ≡ reopened (C.layout code.now) (model job.old) syndrome.now erasure.now }
-{
-    Numbers::of_acceptance(job.open(code, syndrome, erasure))
-}
-
-// What is to be done with a job: the call that is asked; where none is, its opening on the syndrome and the erasure.
+// What is to be done with a job: a call, or its opening on a syndrome and an erasure.
 #[derive(Clone, Copy)]
-pub(crate) struct Task<'a> {
-    pub asked: Option<Asked>,
-    pub syndrome: &'a [u8],
-    pub erasure: &'a [u8],
+pub(crate) enum Task<'a> {
+    Call(Call),
+    Open {
+        syndrome: &'a [u8],
+        erasure: &'a [u8],
+    },
 }
 
-pub(crate) fn act_on<C: Code>(code: &C, job: &mut Job, task: Task<'_>) -> Numbers
-    ensures { (result, model job.new) ≡ done (C.layout code.now) (model job.old) task.entry }
-{
-    match task.asked {
-        Some(asked) => answer_on(code, job, asked),
-        None => open_on(code, job, task.syndrome, task.erasure),
+impl Task<'_> {
+    // Does the task on a job of the code.
+    pub(crate) fn act_on<C: Code>(self, code: &C, job: &mut Job) -> Numbers
+        ensures { (result, model job.new) ≡ done (C.layout code.now) (model job.old) self.entry }
+    {
+        match self {
+            Task::Call(call) => Numbers::from(call.make(code, job)),
+            Task::Open { syndrome, erasure } => {
+                Numbers::from(job.open(code, syndrome, erasure).map(|()| Answer::Accepted))
+            }
+        }
     }
 }

@@ -1,6 +1,10 @@
 // Kinds of codes by their numbers.
 ghost use Rattle.std.specs.Prelude.{◌≡◌};
+ghost use Rattle.std.specs.Option.{ok_or};
+ghost use Rattle.foreign.specs.declared.not_done.NotDone.TheVariants.{NoSuchCode};
 ghost use Rattle.foreign.specs.Kinds.{kind_of};
+
+use crate::not_done::NotDone;
 
 // How a code is made from a graph.
 #[derive(Clone, Copy)]
@@ -21,34 +25,22 @@ pub(crate) enum Kind {
     Written,
 }
 
-const PRODUCT: u32 = b'P' as u32;
+impl TryFrom<u32> for Kind {
+    type Error = NotDone;
 
-const EXCHANGED: u32 = b'E' as u32;
+    ghost try_from_gives = { λ n r. r ≡ ok_or (kind_of n) NoSuchCode };
 
-const EXCHANGED_TWICE: u32 = b'X' as u32;
-
-const BARE: u32 = b'B' as u32;
-
-const BARE_EXCHANGED: u32 = b'e' as u32;
-
-const TURNED_PRODUCT: u32 = b'T' as u32;
-
-const CYCLIC: u32 = b'C' as u32;
-
-const WRITTEN: u32 = b'W' as u32;
-
-pub(crate) fn kind_of(number: u32) -> Option<Kind>
-    ensures { result ≡ kind_of number }
-{
-    match number {
-        PRODUCT => Some(Kind::File(Shape::Product)),
-        EXCHANGED => Some(Kind::File(Shape::Exchanged)),
-        EXCHANGED_TWICE => Some(Kind::File(Shape::ExchangedTwice)),
-        BARE => Some(Kind::File(Shape::Bare)),
-        BARE_EXCHANGED => Some(Kind::File(Shape::BareExchanged)),
-        TURNED_PRODUCT => Some(Kind::File(Shape::TurnedProduct)),
-        CYCLIC => Some(Kind::Cyclic),
-        WRITTEN => Some(Kind::Written),
-        _ => None,
+    fn try_from(number: u32) -> Result<Kind, NotDone> {
+        match u8::try_from(number) {
+            Ok(b'P') => Ok(Kind::File(Shape::Product)),
+            Ok(b'E') => Ok(Kind::File(Shape::Exchanged)),
+            Ok(b'X') => Ok(Kind::File(Shape::ExchangedTwice)),
+            Ok(b'B') => Ok(Kind::File(Shape::Bare)),
+            Ok(b'e') => Ok(Kind::File(Shape::BareExchanged)),
+            Ok(b'T') => Ok(Kind::File(Shape::TurnedProduct)),
+            Ok(b'C') => Ok(Kind::Cyclic),
+            Ok(b'W') => Ok(Kind::Written),
+            _ => Err(NotDone::NoSuchCode),
+        }
     }
 }

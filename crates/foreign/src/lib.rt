@@ -2,8 +2,9 @@
 #![tactic(auto)]
 
 mod calling;
-mod copies;
+mod kept;
 mod kinds;
+mod not_done;
 pub mod numbers;
 mod told_codes;
 
@@ -11,9 +12,9 @@ ghost use Rattle.jobs.specs.Calls.{call};
 ghost use Rattle.foreign.specs.Numbering.{call_of, numbered, reopened, model_of, Answered};
 ghost use Rattle.foreign.specs.Told.{told_code};
 
-use calling::Task;
-use copies::on_copies;
-use numbers::{Asked, NO_MEMORY, Numbers};
+use calling::{Call, Task};
+use kept::Kept;
+use numbers::{Asked, Numbers};
 use std::alloc::Global;
 
 // Makes the call that is asked on the job of the four, and leaves in them what it leaves.
@@ -33,15 +34,15 @@ pub extern "C" fn kotremwa_call(
         (λ c. numbered (call c (model_of remaining.old opened.old correction.old moves.old) (call_of asked.now)))
         (result, model_of remaining.new opened.new correction.new moves.new) }
 {
-    let task = Task {
-        asked: Some(*asked),
-        syndrome: b"",
-        erasure: b"",
+    let kept = Kept {
+        remaining,
+        opened,
+        correction,
+        moves,
     };
-    match on_copies(heap, kind, code, task, remaining, opened, correction, moves) {
-        Ok(numbers) => numbers,
-        Err(_) => Numbers::only_refused(NO_MEMORY),
-    }
+    let task = Task::Call(Call::from(*asked));
+    kept.act(heap, kind, code, task)
+        .unwrap_or_else(Numbers::from)
 }
 
 // Opens the job of the four on the syndrome and the erasure.
@@ -62,13 +63,13 @@ pub extern "C" fn kotremwa_open<'a>(
         (λ c. reopened c (model_of remaining.old opened.old correction.old moves.old) syndrome.now erasure.now)
         (result, model_of remaining.new opened.new correction.new moves.new) }
 {
-    let task = Task {
-        asked: None,
-        syndrome,
-        erasure,
+    let kept = Kept {
+        remaining,
+        opened,
+        correction,
+        moves,
     };
-    match on_copies(heap, kind, code, task, remaining, opened, correction, moves) {
-        Ok(numbers) => numbers,
-        Err(_) => Numbers::only_refused(NO_MEMORY),
-    }
+    let task = Task::Open { syndrome, erasure };
+    kept.act(heap, kind, code, task)
+        .unwrap_or_else(Numbers::from)
 }

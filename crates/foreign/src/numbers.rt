@@ -1,14 +1,17 @@
 // Calls and their answers as numbers, which any language can hold.
-ghost use Rattle.std.specs.Prelude.{◌≡◌};
-ghost use Rattle.moves.specs.Held.{by_number};
-ghost use Rattle.jobs.specs.Calls.{peeled, pruned, flipped, ran, told};
-ghost use Rattle.foreign.specs.Numbering.{refusal_number, verdict_number, only_refused, answer_numbers};
+ghost use Rattle.std.specs.Prelude.{◌≡◌, ◌≢◌, MatchOption};
+ghost use Rattle.verdicts.specs.declared.Verdict.{Verdict};
+ghost use Rattle.jobs.specs.Calls.{told};
+ghost use Rattle.foreign.specs.Numbering.{call_of, refusal_number, verdict_number, only_refused, numbers_of, not_done_numbers};
+ghost use Rattle.foreign.specs.Calling.{meant, meant_answer, answered};
 
-use codes::code::Qubit;
-use jobs::answers::Run;
+use crate::calling::{Answer, Call};
+use crate::not_done::NotDone;
+use codes::code::{Check, Generator, Qubit};
 use refusals::Refusal;
 use verdicts::Verdict;
 
+// Numbers and no enum, since C has none that holds values.
 // Which call, and its numbers: 0 is the peel of check `first`, 1 the prune of generator `first` at qubit `second`, 2 the flip of generator `first`, 3 a run, and any other number the question for the verdict.
 #[repr(C)]
 #[derive(Clone, Copy)]
@@ -18,6 +21,7 @@ pub struct Asked {
     pub second: u32,
 }
 
+// Numbers and no enum, as in `Asked`.
 // What a call answered. `refused` is the number of the question that was answered no, or 0.
 // A peel tells its qubit, and 1 or 0 for whether the qubit changed; a flip by how much the weight fell, and the size of its set; a run its peels, prunes and flips.
 // A run and the question for the verdict tell the verdict: 1 contradicted, 2 settled, 3 moving, 4 matched, 5 stalled. What is not told is 0.
@@ -32,117 +36,133 @@ pub struct Numbers {
 }
 
 // Stands in `refused` where the bytes tell no code.
-pub(crate) const NO_SUCH_CODE: u32 = 255;
+pub const NO_SUCH_CODE: u32 = 255;
 
 // Stands in `refused` for want of memory.
-pub(crate) const NO_MEMORY: u32 = 254;
+pub const NO_MEMORY: u32 = 254;
 
-// The number of a refusal, in which want of memory is told from an accepted call.
-pub(crate) fn refusal_number(e: Refusal) -> u32
-    ensures { result ≡ refusal_number e }
-{
-    let number = e.number();
-    if number == 0 {
-        NO_MEMORY
-    } else {
-        u32::from(number)
+// Accepted, and nothing is told.
+const ACCEPTED: Numbers = Numbers {
+    refused: 0,
+    first: 0,
+    second: 0,
+    third: 0,
+    verdict: 0,
+};
+
+impl From<Asked> for Call {
+    ghost from_gives = { λ a k. meant k ≡ call_of a };
+
+    fn from(asked: Asked) -> Call {
+        match asked.call {
+            0 => Call::Peel(Check(asked.first)),
+            1 => Call::Prune(Generator(asked.first), Qubit(asked.second)),
+            2 => Call::Flip(Generator(asked.first)),
+            3 => Call::Run,
+            _ => Call::Ask,
+        }
     }
 }
 
-fn verdict_number(v: Verdict) -> u32
-    ensures { result ≡ verdict_number v }
-{
-    match v {
-        Verdict::Contradicted => 1,
-        Verdict::Settled => 2,
-        Verdict::Moving => 3,
-        Verdict::Matched => 4,
-        Verdict::Stalled => 5,
+impl From<NotDone> for Numbers {
+    ghost from_gives = { λ e n. n ≡ not_done_numbers e };
+
+    fn from(e: NotDone) -> Numbers {
+        let refused = match e {
+            NotDone::NoSuchCode => NO_SUCH_CODE,
+            NotDone::NoMemory => NO_MEMORY,
+        };
+        Numbers {
+            refused,
+            ..ACCEPTED
+        }
+    }
+}
+
+// Want of memory is told from an accepted call.
+impl From<Refusal> for Numbers {
+    ghost from_gives = { λ e n. n ≡ only_refused (refusal_number e) };
+
+    fn from(e: Refusal) -> Numbers {
+        let refused = match e {
+            Refusal::OutOfMemory => NO_MEMORY,
+            _ => u32::from(e.number()),
+        };
+        Numbers {
+            refused,
+            ..ACCEPTED
+        }
+    }
+}
+
+impl From<Verdict> for Numbers {
+    ghost from_gives = { λ v n. n ≡ numbers_of (told v) };
+
+    fn from(v: Verdict) -> Numbers {
+        let verdict = match v {
+            Verdict::Contradicted => 1,
+            Verdict::Settled => 2,
+            Verdict::Moving => 3,
+            Verdict::Matched => 4,
+            Verdict::Stalled => 5,
+        };
+        Numbers {
+            verdict,
+            ..ACCEPTED
+        }
+    }
+}
+
+impl From<Answer> for Numbers {
+    ghost from_gives = { λ a n. n ≡ numbers_of (meant_answer a) };
+
+    fn from(answer: Answer) -> Numbers {
+        match answer {
+            Answer::Peeled((v, changed)) => Numbers {
+                first: v.0,
+                second: u32::from(changed),
+                ..ACCEPTED
+            },
+            Answer::Accepted => ACCEPTED,
+            Answer::Flipped((fall, size)) => Numbers {
+                first: fall,
+                second: size,
+                ..ACCEPTED
+            },
+            Answer::Ran(run) => Numbers {
+                first: run.peels,
+                second: run.prunes,
+                third: run.flips,
+                ..Numbers::from(run.verdict)
+            },
+            Answer::Stands(verdict) => Numbers::from(verdict),
+        }
+    }
+}
+
+impl From<Result<Answer, Refusal>> for Numbers {
+    ghost from_gives = { λ r n. n ≡ numbers_of (answered r) };
+
+    fn from(answer: Result<Answer, Refusal>) -> Numbers {
+        match answer {
+            Ok(answer) => Numbers::from(answer),
+            Err(e) => Numbers::from(e),
+        }
     }
 }
 
 impl Numbers {
-    // Nothing is told but which question was answered no.
-    pub(crate) fn only_refused(refused: u32) -> Numbers
-        ensures { result ≡ only_refused refused }
+    // The verdict that is told, if there is one.
+    pub fn verdict(self) -> Option<Verdict>
+        ensures { MatchOption result ((v : Verdict) → verdict_number v ≢ self.verdict) (λ v. verdict_number v ≡ self.verdict) }
     {
-        Numbers {
-            refused,
-            first: 0,
-            second: 0,
-            third: 0,
-            verdict: 0,
-        }
-    }
-
-    // Accepted, with two numbers.
-    fn two(first: u32, second: u32) -> Numbers
-        ensures { result ≡ record { refused = 0; first = first; second = second; third = 0; verdict = 0 } }
-    {
-        Numbers {
-            refused: 0,
-            first,
-            second,
-            third: 0,
-            verdict: 0,
-        }
-    }
-
-    pub(crate) fn of_peel(answer: Result<(Qubit, u8), Refusal>) -> Numbers
-        ensures { result ≡ answer_numbers (λ p. peeled p.0 p.1) (by_number answer) }
-    {
-        match answer {
-            Ok((v, changed)) => Numbers::two(v.0, u32::from(changed)),
-            Err(e) => Numbers::only_refused(refusal_number(e)),
-        }
-    }
-
-    // Of an answer that tells nothing but that the call was accepted.
-    pub(crate) fn of_acceptance(answer: Result<(), Refusal>) -> Numbers
-        ensures { result ≡ answer_numbers (λ _. pruned) answer }
-    {
-        match answer {
-            Ok(()) => Numbers::only_refused(0),
-            Err(e) => Numbers::only_refused(refusal_number(e)),
-        }
-    }
-
-    pub(crate) fn of_flip(answer: Result<(u32, u32), Refusal>) -> Numbers
-        ensures { result ≡ answer_numbers (λ p. flipped p.0 p.1) answer }
-    {
-        match answer {
-            Ok((fall, size)) => Numbers::two(fall, size),
-            Err(e) => Numbers::only_refused(refusal_number(e)),
-        }
-    }
-
-    pub(crate) fn of_run(answer: Result<Run, Refusal>) -> Numbers
-        ensures { result ≡ answer_numbers ran answer }
-    {
-        match answer {
-            Ok(run) => Numbers {
-                refused: 0,
-                first: run.peels,
-                second: run.prunes,
-                third: run.flips,
-                verdict: verdict_number(run.verdict),
-            },
-            Err(e) => Numbers::only_refused(refusal_number(e)),
-        }
-    }
-
-    pub(crate) fn of_verdict(answer: Result<Verdict, Refusal>) -> Numbers
-        ensures { result ≡ answer_numbers told answer }
-    {
-        match answer {
-            Ok(v) => Numbers {
-                refused: 0,
-                first: 0,
-                second: 0,
-                third: 0,
-                verdict: verdict_number(v),
-            },
-            Err(e) => Numbers::only_refused(refusal_number(e)),
+        match self.verdict {
+            1 => Some(Verdict::Contradicted),
+            2 => Some(Verdict::Settled),
+            3 => Some(Verdict::Moving),
+            4 => Some(Verdict::Matched),
+            5 => Some(Verdict::Stalled),
+            _ => None,
         }
     }
 }

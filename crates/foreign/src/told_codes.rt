@@ -1,15 +1,17 @@
-// Work on a job of a code that is told by its kind and bytes.
-ghost use Rattle.std.specs.Prelude.{◌≡◌, ◌+◌, ◌*◌, ◌<◌, IfOk};
+// Codes that are told by a kind and bytes.
+ghost use Rattle.std.specs.Prelude.{◌≡◌, IfOk};
 ghost use Rattle.moves.specs.Held.{model};
-ghost use Rattle.foreign.specs.Numbering.{unmade};
-ghost use Rattle.foreign.specs.Tasks.{done, Done};
-ghost use Rattle.foreign.specs.Told.{shaped, file_code, cyclic_code, shifts_code, split_code, written_told, kind_code, told_code};
+ghost use Rattle.foreign.specs.Tasks.{done};
+ghost use Rattle.foreign.specs.Told.{shaped, file_code, cyclic_code, shifts_code, split_code, written_told, told_code};
+ghost use Rattle.foreign.specs.Making.{layout_of, Makes};
 
-use crate::calling::{Task, act_on};
-use crate::kinds::{Kind, Shape, kind_of};
-use crate::numbers::{NO_MEMORY, NO_SUCH_CODE, Numbers};
+use crate::calling::Task;
+use crate::kinds::{Kind, Shape};
+use crate::not_done::NotDone;
+use crate::numbers::Numbers;
 use codes::bare::Bare;
 use codes::exchanged::Exchanged;
+use graph_files::matrix::Matrix;
 use graph_files::reading::read_graph;
 use graphs::cyclic::Cyclic;
 use graphs::graph::Graph;
@@ -17,168 +19,133 @@ use graphs::turned::Turned;
 use moves::job::Job;
 use patterns::shapes::width;
 use products::product::Product;
-use refusals::Refusal;
 use std::alloc::{AllocError, Global};
 use written_codes::making::{Rows, make_code};
+use written_codes::written::Written;
 
-// Where no code was made: the bytes tell none, or there was no memory for it.
-fn not_made(e: Refusal) -> Numbers
-    ensures { result ≡ unmade e }
-{
-    if e.number() == 0 {
-        Numbers::only_refused(NO_MEMORY)
-    } else {
-        Numbers::only_refused(NO_SUCH_CODE)
-    }
+// A code that was told: one of a graph that was read, the product of a cyclic graph, or one that was written out.
+#[derive(Drop)]
+pub(crate) enum ToldCode {
+    File(Shape, Matrix),
+    Cyclic(Cyclic),
+    Written(Written),
 }
 
 fn on_graph<G: Graph + Drop>(shape: Shape, graph: G, job: &mut Job, task: Task<'_>) -> Numbers
     ensures { (result, model job.new) ≡ done (shaped shape (G.tanner graph)) (model job.old) task.entry }
 {
     match shape {
-        Shape::Product => act_on(&Product::of(graph), job, task),
+        Shape::Product => task.act_on(&Product::of(graph), job),
         Shape::Exchanged => {
             let code = Product::of(graph);
-            act_on(&Exchanged { code }, job, task)
+            task.act_on(&Exchanged { code }, job)
         }
         Shape::ExchangedTwice => {
             let code = Product::of(graph);
             let code = Exchanged { code };
-            act_on(&Exchanged { code }, job, task)
+            task.act_on(&Exchanged { code }, job)
         }
-        Shape::Bare => act_on(&Bare { graph }, job, task),
+        Shape::Bare => task.act_on(&Bare { graph }, job),
         Shape::BareExchanged => {
             let code = Bare { graph };
-            act_on(&Exchanged { code }, job, task)
+            task.act_on(&Exchanged { code }, job)
         }
-        Shape::TurnedProduct => act_on(&Product::of(Turned { graph }), job, task),
+        Shape::TurnedProduct => task.act_on(&Product::of(Turned { graph }), job),
+    }
+}
+
+impl ToldCode {
+    // Does the task on a job of the code.
+    pub(crate) fn act(self, job: &mut Job, task: Task<'_>) -> Numbers
+        ensures { (result, model job.new) ≡ done (layout_of self) (model job.old) task.entry }
+    {
+        match self {
+            ToldCode::File(shape, graph) => on_graph(shape, graph, job, task),
+            ToldCode::Cyclic(graph) => on_graph(Shape::Product, graph, job, task),
+            ToldCode::Written(code) => task.act_on(&code, job),
+        }
+    }
+
+    // The code that the number of a kind and bytes tell.
+    #[tactic(auto, unfolding(crate::specs::Told::told_code))]
+    pub(crate) fn of(heap: Global, number: u32, bytes: &[u8]) -> Result<ToldCode, NotDone>
+        ensures { Makes (told_code number bytes.now) result }
+    {
+        match Kind::try_from(number)? {
+            Kind::File(shape) => of_file(heap, shape, bytes),
+            Kind::Cyclic => of_cyclic(heap, bytes),
+            Kind::Written => of_written(heap, bytes),
+        }
     }
 }
 
 // The bytes are a graph file.
-fn on_file(heap: Global, shape: Shape, file: &[u8], job: &mut Job, task: Task<'_>) -> Numbers
-    ensures { Done (file_code shape file.now) (model job.old) task.entry (result, model job.new) }
+fn of_file(heap: Global, shape: Shape, file: &[u8]) -> Result<ToldCode, NotDone>
+    ensures { Makes (file_code shape file.now) result }
 {
-    match read_graph(heap, file) {
-        Ok(graph) => on_graph(shape, graph, job, task),
-        Err(e) => not_made(e),
-    }
+    Ok(ToldCode::File(shape, read_graph(heap, file)?))
 }
 
 // The bytes as numbers.
 fn widened(heap: Global, bytes: &[u8]) -> Result<Vec<u32>, AllocError>
     ensures { IfOk result (λ v. v.items ≡ bytes.now) }
 {
-    let mut numbers = Vec::new(heap);
-    for b in bytes {
-        numbers.push(u32::from(*b))?;
-    }
-    Ok(numbers)
+    bytes.iter().map(|b| u32::from(*b)).collect(heap)
 }
 
 // The bytes are the shifts of a cyclic graph.
-fn on_shifts(heap: Global, count: u32, shifts: &[u8], job: &mut Job, task: Task<'_>) -> Numbers
-    ensures { Done (shifts_code count shifts.now) (model job.old) task.entry (result, model job.new) }
+fn of_shifts(heap: Global, count: u32, shifts: &[u8]) -> Result<ToldCode, NotDone>
+    ensures { Makes (shifts_code count shifts.now) result }
 {
-    let Ok(shifts) = widened(heap, shifts) else {
-        return Numbers::only_refused(NO_MEMORY);
-    };
-    match Cyclic::new(heap, count, &shifts) {
-        Ok(graph) => on_graph(Shape::Product, graph, job, task),
-        Err(e) => not_made(e),
-    }
+    let shifts = widened(heap, shifts)?;
+    Ok(ToldCode::Cyclic(Cyclic::new(heap, count, &shifts)?))
 }
 
 // The bytes are a cyclic graph's count of variables, and its shifts.
-fn on_cyclic(heap: Global, bytes: &[u8], job: &mut Job, task: Task<'_>) -> Numbers
-    ensures { Done (cyclic_code bytes.now) (model job.old) task.entry (result, model job.new) }
+fn of_cyclic(heap: Global, bytes: &[u8]) -> Result<ToldCode, NotDone>
+    ensures { Makes (cyclic_code bytes.now) result }
 {
     let [count, shifts @ ..] = bytes else {
-        return Numbers::only_refused(NO_SUCH_CODE);
+        return Err(NotDone::NoSuchCode);
     };
-    on_shifts(heap, u32::from(*count), shifts, job, task)
-}
-
-// The number of two bytes, the high one first.
-fn word(high: u8, low: u8) -> u32
-    ensures { result ≡ 256 * high + low }
-{
-    u32::from(high) * 256 + u32::from(low)
+    of_shifts(heap, u32::from(*count), shifts)
 }
 
 // The bytes are the rows of the checks and of the generators, so many of each.
-fn on_rows(
+fn of_rows(
     heap: Global,
-    qubits: u32,
-    checks: u32,
-    generators: u32,
+    qubits: u16,
+    checks: u16,
+    generators: u16,
     rows: &[u8],
-    job: &mut Job,
-    task: Task<'_>,
-) -> Numbers
-    requires qubits_bound { qubits < 65536 }
-    requires checks_bound { checks < 65536 }
-    ensures { Done (split_code qubits checks generators rows.now) (model job.old) task.entry (result, model job.new) }
+) -> Result<ToldCode, NotDone>
+    ensures { Makes (split_code qubits checks generators rows.now) result }
 {
-    let cut = checks as usize * width(qubits);
-    if cut > rows.len() {
-        return Numbers::only_refused(NO_SUCH_CODE);
-    }
-    let (check_rows, generator_rows) = rows.split_at(cut);
+    let qubits = u32::from(qubits);
+    let cut = usize::from(checks) * width(qubits);
+    let Some((check_rows, generator_rows)) = rows.split_at_checked(cut) else {
+        return Err(NotDone::NoSuchCode);
+    };
     let checks = Rows {
-        count: checks,
+        count: u32::from(checks),
         bytes: check_rows,
     };
     let generators = Rows {
-        count: generators,
+        count: u32::from(generators),
         bytes: generator_rows,
     };
-    match make_code(heap, qubits, checks, generators) {
-        Ok(code) => act_on(&code, job, task),
-        Err(e) => not_made(e),
-    }
+    Ok(ToldCode::Written(make_code(heap, qubits, checks, generators)?))
 }
 
 // The bytes are the counts of qubits, checks and generators, and then the rows.
-fn on_written(heap: Global, bytes: &[u8], job: &mut Job, task: Task<'_>) -> Numbers
-    ensures { Done (written_told bytes.now) (model job.old) task.entry (result, model job.new) }
+fn of_written(heap: Global, bytes: &[u8]) -> Result<ToldCode, NotDone>
+    ensures { Makes (written_told bytes.now) result }
 {
     let [n1, n0, m1, m0, k1, k0, rows @ ..] = bytes else {
-        return Numbers::only_refused(NO_SUCH_CODE);
+        return Err(NotDone::NoSuchCode);
     };
-    on_rows(
-        heap,
-        word(*n1, *n0),
-        word(*m1, *m0),
-        word(*k1, *k0),
-        rows,
-        job,
-        task,
-    )
-}
-
-fn on_kind(heap: Global, kind: Kind, bytes: &[u8], job: &mut Job, task: Task<'_>) -> Numbers
-    ensures { Done (kind_code kind bytes.now) (model job.old) task.entry (result, model job.new) }
-{
-    match kind {
-        Kind::File(shape) => on_file(heap, shape, bytes, job, task),
-        Kind::Cyclic => on_cyclic(heap, bytes, job, task),
-        Kind::Written => on_written(heap, bytes, job, task),
-    }
-}
-
-// Does the task on the code that is told, if there is one.
-pub(crate) fn on_told(
-    heap: Global,
-    number: u32,
-    bytes: &[u8],
-    job: &mut Job,
-    task: Task<'_>,
-) -> Numbers
-    ensures { Done (told_code number bytes.now) (model job.old) task.entry (result, model job.new) }
-{
-    match kind_of(number) {
-        Some(kind) => on_kind(heap, kind, bytes, job, task),
-        None => Numbers::only_refused(NO_SUCH_CODE),
-    }
+    let qubits = u16::from_be_bytes([*n1, *n0]);
+    let checks = u16::from_be_bytes([*m1, *m0]);
+    let generators = u16::from_be_bytes([*k1, *k0]);
+    of_rows(heap, qubits, checks, generators, rows)
 }

@@ -1,5 +1,7 @@
 // Whether a graph tells just the neighbours that are expected of it, from both sides.
-use graphs::graph::{CheckNode, Graph, VariableNode};
+use graphs::families::{Checks, Variables};
+use graphs::graph::Graph;
+use matrices::families::{Family, Neighbours};
 use std::process::Abort;
 use std::test::Fail;
 
@@ -10,67 +12,45 @@ pub struct Edges<'a> {
     pub of_checks: &'a [&'a [u32]],
 }
 
-fn variables_tell<G: Graph>(
+// The neighbours of a node, one by one and by the iterator, and nothing after the last.
+fn node_tells<F: Family + Copy>(
     rt: &impl Abort,
-    graph: &G,
-    of_variables: &[&[u32]],
+    family: F,
+    u: u32,
+    expected: &[u32],
 ) -> Result<(), Fail> {
-    let count = graph.variables();
-    assert_eq!(rt; count as usize, of_variables.len());
-    for v in 0..count {
-        let expected = of_variables.get(v as usize).ok_or("no such variable")?;
-        let degree = graph.variable_degree(VariableNode(v)).ok_or("no degree")?;
-        assert_eq!(rt; degree as usize, expected.len(), "variable {v}");
-        for k in 0..degree {
-            let CheckNode(p) = graph
-                .variable_neighbour(VariableNode(v), k)
-                .ok_or("no neighbour")?;
-            assert_eq!(rt;
-                p,
-                *expected.get(k as usize).ok_or("too many")?,
-                "variable {v}"
-            );
-        }
-        assert!(rt; graph.variable_neighbour(VariableNode(v), degree).is_none());
-        assert!(rt;
-            graph
-                .variable_neighbour(VariableNode(v), u32::MAX)
-                .is_none()
-        );
+    let size = family.size(u).ok_or("no degree")?;
+    assert_eq!(rt; size as usize, expected.len(), "node {u}");
+    for (k, v) in (0..size).zip(expected.iter()) {
+        assert_eq!(rt; family.neighbour(u, k), Some(*v), "node {u}");
     }
-    assert!(rt; graph.variable_degree(VariableNode(count)).is_none());
-    assert!(rt; graph.variable_neighbour(VariableNode(count), 0).is_none());
-    assert!(rt; graph.variable_degree(VariableNode(u32::MAX)).is_none());
+    let mut told = Neighbours::of(family, u);
+    for v in expected {
+        assert_eq!(rt; told.next(), Some(*v), "node {u}");
+    }
+    assert!(rt; told.next().is_none(), "node {u}");
+    assert!(rt; family.neighbour(u, size).is_none(), "node {u}");
+    assert!(rt; family.neighbour(u, u32::MAX).is_none(), "node {u}");
     Ok(())
 }
 
-fn checks_tell<G: Graph>(rt: &impl Abort, graph: &G, of_checks: &[&[u32]]) -> Result<(), Fail> {
-    let count = graph.checks();
-    assert_eq!(rt; count as usize, of_checks.len());
-    for p in 0..count {
-        let expected = of_checks.get(p as usize).ok_or("no such check")?;
-        let degree = graph.check_degree(CheckNode(p)).ok_or("no degree")?;
-        assert_eq!(rt; degree as usize, expected.len(), "check {p}");
-        for k in 0..degree {
-            let VariableNode(v) = graph
-                .check_neighbour(CheckNode(p), k)
-                .ok_or("no neighbour")?;
-            assert_eq!(rt;
-                v,
-                *expected.get(k as usize).ok_or("too many")?,
-                "check {p}"
-            );
-        }
-        assert!(rt; graph.check_neighbour(CheckNode(p), degree).is_none());
-        assert!(rt; graph.check_neighbour(CheckNode(p), u32::MAX).is_none());
+fn family_tells<F: Family + Copy>(
+    rt: &impl Abort,
+    family: F,
+    expected: &[&[u32]],
+) -> Result<(), Fail> {
+    let count = family.count();
+    assert_eq!(rt; count as usize, expected.len());
+    for (u, row) in (0..count).zip(expected.iter()) {
+        node_tells(rt, family, u, *row)?;
     }
-    assert!(rt; graph.check_degree(CheckNode(count)).is_none());
-    assert!(rt; graph.check_neighbour(CheckNode(count), 0).is_none());
-    assert!(rt; graph.check_degree(CheckNode(u32::MAX)).is_none());
+    assert!(rt; family.size(count).is_none());
+    assert!(rt; family.neighbour(count, 0).is_none());
+    assert!(rt; family.size(u32::MAX).is_none());
     Ok(())
 }
 
 pub(crate) fn tells<G: Graph>(rt: &impl Abort, graph: &G, edges: &Edges<'_>) -> Result<(), Fail> {
-    variables_tell(rt, graph, edges.of_variables)?;
-    checks_tell(rt, graph, edges.of_checks)
+    family_tells(rt, Variables { graph }, edges.of_variables)?;
+    family_tells(rt, Checks { graph }, edges.of_checks)
 }

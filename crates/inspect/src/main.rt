@@ -3,66 +3,54 @@
 #![tactic(auto)]
 
 use anyhow::anyhow;
-use codes::code::{Check, Code, Generator, Qubit};
+use codes::code::Code;
+use codes::families::{Checks, Generators};
 use graph_files::reading::read_graph;
-use graphs::graph::{CheckNode, Graph, VariableNode};
+use graphs::families;
+use graphs::families::Variables;
+use graphs::graph::Graph;
+use inputs::read_up_to;
+use matrices::families::{Family, Neighbours};
 use products::product::Product;
 use refusals::Refusal;
-use std::io::Read;
 use std::{env, io};
 
 // Of a longer input, this many bytes are the file.
 const MOST_INPUT: u64 = 8192;
 
-fn read_input(rt: &HostRuntime) -> io::Result<Vec<u8>> {
-    let mut bytes = Vec::new(rt.alloc());
-    rt.stdin().take(MOST_INPUT).read_to_end(&mut bytes)?;
-    Ok(bytes)
-}
-
-fn edges<G: Graph>(graph: &G) -> u32 {
-    let mut sum: u32 = 0;
-    for p in 0..graph.checks() {
-        sum = sum.saturating_add(graph.check_degree(CheckNode(p)).unwrap_or(0));
-    }
-    sum
-}
-
-fn print_degrees<G: Graph>(rt: &HostRuntime, graph: &G) -> io::Result<()> {
-    print!(rt; "variable degrees")?;
-    for v in 0..graph.variables() {
-        let degree = graph.variable_degree(VariableNode(v)).unwrap_or(0);
-        print!(rt; " {degree}")?;
-    }
-    print!(rt; "\ncheck degrees")?;
-    for p in 0..graph.checks() {
-        let degree = graph.check_degree(CheckNode(p)).unwrap_or(0);
-        print!(rt; " {degree}")?;
+// How many neighbours each node of the family has.
+fn print_sizes<F: Family>(rt: &HostRuntime, name: &str, family: &F) -> io::Result<()> {
+    print!(rt; "{name}")?;
+    for size in (0..family.count()).filter_map(|u| family.size(u)) {
+        print!(rt; " {size}")?;
     }
     println!(rt; "")
 }
 
-fn print_check<G: Graph>(rt: &HostRuntime, graph: &G, p: CheckNode) -> io::Result<()> {
-    let number = p.0;
-    print!(rt; "check {number}")?;
-    for k in 0..graph.check_degree(p).unwrap_or(0) {
-        if let Some(VariableNode(v)) = graph.check_neighbour(p, k) {
+// The neighbours of each node of the family, a line for each node.
+fn print_rows<F: Family + Copy>(rt: &HostRuntime, name: &str, family: F) -> io::Result<()> {
+    for u in 0..family.count() {
+        print!(rt; "{name} {u}")?;
+        for v in Neighbours::of(family, u) {
             print!(rt; " {v}")?;
         }
+        println!(rt; "")?;
     }
-    println!(rt; "")
+    Ok(())
 }
 
 fn print_graph<G: Graph>(rt: &HostRuntime, graph: &G) -> io::Result<()> {
-    let variables = graph.variables();
-    let checks = graph.checks();
-    let edges = edges(graph);
-    println!(rt; "graph {variables} {checks} {edges}")?;
-    print_degrees(rt, graph)?;
-    for p in 0..checks {
-        print_check(rt, graph, CheckNode(p))?;
-    }
-    Ok(())
+    let variables = Variables { graph };
+    let checks = families::Checks { graph };
+    let edges = (0..checks.count())
+        .filter_map(|p| checks.size(p))
+        .fold(0u32, u32::saturating_add);
+    let variable_count = variables.count();
+    let check_count = checks.count();
+    println!(rt; "graph {variable_count} {check_count} {edges}")?;
+    print_sizes(rt, "variable degrees", &variables)?;
+    print_sizes(rt, "check degrees", &checks)?;
+    print_rows(rt, "check", checks)
 }
 
 fn print_code<C: Code>(rt: &HostRuntime, code: &C) -> io::Result<()> {
@@ -73,36 +61,9 @@ fn print_code<C: Code>(rt: &HostRuntime, code: &C) -> io::Result<()> {
     println!(rt; "code {letter} {qubits} {checks} {generators}")
 }
 
-fn print_check_qubits<C: Code>(rt: &HostRuntime, code: &C, u: Check) -> io::Result<()> {
-    let number = u.0;
-    print!(rt; "code check {number}")?;
-    for k in 0..code.check_size(u).unwrap_or(0) {
-        if let Some(Qubit(v)) = code.check_qubit(u, k) {
-            print!(rt; " {v}")?;
-        }
-    }
-    println!(rt; "")
-}
-
-fn print_generator_qubits<C: Code>(rt: &HostRuntime, code: &C, g: Generator) -> io::Result<()> {
-    let number = g.0;
-    print!(rt; "code generator {number}")?;
-    for k in 0..code.generator_size(g).unwrap_or(0) {
-        if let Some(Qubit(v)) = code.generator_qubit(g, k) {
-            print!(rt; " {v}")?;
-        }
-    }
-    println!(rt; "")
-}
-
 fn print_qubits<C: Code>(rt: &HostRuntime, code: &C) -> io::Result<()> {
-    for u in 0..code.checks() {
-        print_check_qubits(rt, code, Check(u))?;
-    }
-    for g in 0..code.generators() {
-        print_generator_qubits(rt, code, Generator(g))?;
-    }
-    Ok(())
+    print_rows(rt, "code check", Checks { code })?;
+    print_rows(rt, "code generator", Generators { code })
 }
 
 // Whether the qubits are asked for: by the one argument that there is.
@@ -116,7 +77,7 @@ fn wants_qubits(rt: &HostRuntime) -> anyhow::Result<bool> {
 
 fn run(rt: &HostRuntime) -> anyhow::Result<()> {
     let qubits = wants_qubits(rt)?;
-    let bytes = read_input(rt)?;
+    let bytes = read_up_to(rt.alloc(), rt.stdin(), MOST_INPUT)?;
     match read_graph(rt.alloc(), bytes.as_slice()) {
         Ok(graph) => {
             print_graph(rt, &graph)?;

@@ -1,24 +1,29 @@
 -- Which fault a job file has, by what its parts were asked. Assumes nothing.
-use Rattle.std.proofs.Common.{◌≡◌, ℕ, ◌+◌, ◌<◌, ◌≤◌, true, leb, List, length, get_or, drop, Some, None, sym, ap, ◌∙◌, ap₂, arith}
+use Rattle.std.proofs.Common.{◌≡◌, ℕ, ◌+◌, ◌<◌, ◌≤◌, true, leb, List, length, get_or, drop, Some, None, unwrap_or, sym, ap, ◌∙◌, ap₂, arith}
 use Rattle.std.proofs.lemmas.List.{length-take-le, length-drop}
 use Rattle.std.proofs.lemmas.Bool.{and_parts, leb-true}
 use Rattle.refusals.specs.declared.Refusal.{Refusal}
+use Rattle.refusals.specs.declared.Refusal.TheVariants.{OutOfMemory}
 use Rattle.refusals.specs.Questions.{first_no}
 use Rattle.refusals.proofs.Asking.{yes_from_none}
 use Rattle.graphs.specs.Tanners.{counted, most_nodes}
 use Rattle.graph_files.specs.Files.{variables_in, checks_in, graph_refusal, head_questions as graph-head-questions}
 use Rattle.graph_files.proofs.Heads.{heads_asked}
 use Rattle.job_files.specs.declared.faults.Fault.{Fault}
-use Rattle.job_files.specs.declared.faults.Fault.TheVariants.{Graph}
+use Rattle.job_files.specs.declared.faults.Fault.TheVariants.{Job, Graph}
 use Rattle.job_files.specs.Faults.{of_job, of_graph, or_else}
 use Rattle.job_files.specs.Files.{head, head_questions, part_of_graph, graph_size, syndrome_at, checks_of, qubits_of, checks_in_job, qubits_in_job, pattern_questions, job_pattern_questions, job_fault}
 
 -- ---- the first no
 
+-- a fault that is the file's is what the reader answers
+pub answers_fault : (f : List ℕ) (d e : Fault) → d ≡ e → job_fault f ≡ Some e → d ≡ unwrap_or (job_fault f) (Graph OutOfMemory)
+answers_fault f d e same fault = same ∙ sym (ap (λ x. unwrap_or x (Graph OutOfMemory)) fault)
+
 module _ (f : List ℕ) where
-  pub fault_of_head : (e : Fault) → of_job (first_no (head_questions f)) ≡ Some e → job_fault f ≡ Some e
+  pub fault_of_head : (e : Refusal) → first_no (head_questions f) ≡ Some e → job_fault f ≡ Some (Job e)
   unfolding job_fault
-  fault_of_head e h = ap (λ x. or_else x (or_else (of_graph (graph_refusal (part_of_graph f))) (of_job (first_no (job_pattern_questions f))))) h
+  fault_of_head e h = ap (λ x. or_else (of_job x) (or_else (of_graph (graph_refusal (part_of_graph f))) (of_job (first_no (job_pattern_questions f))))) h
 
   module _ (heads : first_no (head_questions f) ≡ None) where
     past_head : job_fault f ≡ or_else (of_graph (graph_refusal (part_of_graph f))) (of_job (first_no (job_pattern_questions f)))

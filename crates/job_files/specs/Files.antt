@@ -1,5 +1,5 @@
 -- The job file: a head of eight bytes, a graph file, a syndrome and an erasure. Assumes nothing.
-use Rattle.std.specs.Prelude.{◌≡◌, ℕ, zero, suc, ◌+◌, ◌*◌, Bool, ◌&&◌, List, [], ◌∷◌, length, take, drop, is_some, Some, None, Option, ◌==◌, nat_le, slice_index}
+use Rattle.std.specs.Prelude.{◌≡◌, ℕ, ◌+◌, ◌*◌, Bool, ◌&&◌, List, [], ◌∷◌, length, take, drop, is_some, Some, None, Option, ◌==◌, nat_le, slice_index}
 use Rattle.refusals.specs.declared.Refusal.TheVariants.{HeadCutShort, WrongMark, WrongVersion, WrongLength, UnusedBitSet, UnknownSide}
 use Rattle.refusals.specs.Questions.{Question, first_no}
 use Rattle.patterns.specs.Patterns.{width, tidy}
@@ -7,22 +7,16 @@ use Rattle.graph_files.specs.Files.{word, variables_in, checks_in, graph_refusal
 use Rattle.graph_files.specs.Held.{graph_of}
 use Rattle.job_files.specs.declared.faults.Fault.{Fault}
 use Rattle.job_files.specs.declared.parts.Side.{Side}
-use Rattle.job_files.specs.declared.parts.Side.TheVariants.{Product, ExchangedProduct}
 use Rattle.job_files.specs.declared.parts.JobFile.{JobFile}
 use Rattle.job_files.specs.Faults.{of_job, of_graph, or_else}
 use Rattle.job_files.specs.Parts.{Cut}
+use Rattle.job_files.specs.Sides.{side_of}
 
 -- ---- the head
 
 -- whether the file begins with the mark ERA
 abbrev pub marked : List ℕ → Bool
 marked file = slice_index file 0 == 69 && (slice_index file 1 == 82 && slice_index file 2 == 65)
-
--- the side of each number
-abbrev pub side_of : ℕ → Option Side
-side_of zero = Some Product
-side_of (suc zero) = Some ExchangedProduct
-side_of (suc (suc b)) = None
 
 abbrev pub side_in : List ℕ → Option Side
 side_in file = side_of (slice_index file 5)

@@ -1,3 +1,4 @@
 pub mod Faults
+pub mod Sides
 pub mod Parts
 pub mod Files

@@ -14,12 +14,12 @@ pub enum Fault {
 
 impl Fault {
     // The layer's word, which reports print.
-    pub fn layer(self) -> &'static [u8]
+    pub fn layer(self) -> &'static str
         ensures { result.now ≡ layer_word self }
     {
         match self {
-            Fault::Job(_) => b"job",
-            Fault::Graph(_) => b"graph",
+            Fault::Job(_) => "job",
+            Fault::Graph(_) => "graph",
         }
     }
 

@@ -31,7 +31,7 @@ fn told<C: Code>(
     case: usize,
 ) -> Result<(), Fail> {
     let verdict = verdict(code, job).ok().ok_or("refused")?;
-    assert_eq!(rt; verdict.word(), word, "case {case}");
+    assert_eq!(rt; verdict.word().as_bytes(), word, "case {case}");
     Ok(())
 }
 
@@ -55,7 +55,7 @@ fn runs<C: Code>(rt: &impl Abort, heap: Global, code: &C, cases: &[Ran<'_>]) -> 
             (peels, prunes, flips),
             "case {i}"
         );
-        assert_eq!(rt; ran.verdict.word(), word, "case {i}");
+        assert_eq!(rt; ran.verdict.word().as_bytes(), word, "case {i}");
         let after = State {
             remaining: *left,
             opened: *opened,

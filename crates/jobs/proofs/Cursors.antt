@@ -20,12 +20,12 @@ use Rattle.jobs.proofs.Fits.{Fits}
 
 -- below the lowest there is none
 pub lowest_before : (n : ℕ) (s : Set) (k : ℕ) → lowest n s ≡ Some k → lowest k s ≡ None
-lowest_before zero s k e = let z : ◌≡◌ {A = ℕ} 0 1 = cc in absurd (omega arith)
+lowest_before zero s k e = absurd (cc)
 lowest_before (suc n) s k e = part (lowest n s) (lowest_before n s k) refl e
   where
     here : (b : Bool) → lowest n s ≡ None → cond b (Some n) None ≡ Some k → lowest k s ≡ None
     here true none e = let same : n ≡ k = cc in ap (λ i. lowest i s) (sym same) ∙ none
-    here false none e = let z : ◌≡◌ {A = ℕ} 0 1 = cc in absurd (omega arith)
+    here false none e = absurd (cc)
 
     part : (o : Option ℕ) → (lowest n s ≡ Some k → lowest k s ≡ None) → lowest n s ≡ o → or_at o s n ≡ Some k → lowest k s ≡ None
     part (Some j) known q e = known (q ∙ e)
@@ -34,10 +34,6 @@ lowest_before (suc n) s k e = part (lowest n s) (lowest_before n s k) refl e
 -- what is not in one set is not in another
 pub none_carried : (s t : Set) (k n : ℕ) → lowest k s ≡ None → n ≤ k → ((j : ℕ) → j < n → s j ≡ false → t j ≡ false) → lowest n t ≡ None
 none_carried s t k n none h keep = none_is (lowest n t) (none_below n t (λ j l. keep j l (lowest_none k s (ap is_some none) j (omega arith))))
-
--- fewer numbers
-pub none_fewer : (s : Set) (k n : ℕ) → lowest k s ≡ None → n ≤ k → lowest n s ≡ None
-none_fewer s k n none h = none_carried s s k n none h (λ _ _ e. e)
 
 -- ---- the least number of a list
 

@@ -72,7 +72,7 @@ module _ (c : Layout) (sound : Sound c) (m : Model) (asked : first_no (pattern_q
       (weight_closed c.qubits m.opened v fits.of_opened below at.1) in
       subst (λ r. Onward m (answered_by (λ p. peeled p.0 p.1) r)) (peel_accepted c sound m u v h one asked)
       (record {
-        accepted = λ e k. let z : ◌≡◌ {A = ℕ} 0 1 = cc in omega arith;
+        accepted = λ e k. cc;
         less = omega (arith, half.1, closing);
         one_more = ap (λ n. min (n + 1) most_moves) half.2;
       })
@@ -84,7 +84,7 @@ module _ (c : Layout) (sound : Sound c) (m : Model) (asked : first_no (pattern_q
       let below : v < c.qubits = sound.by_generator.row_within g v h held in
       subst (λ r. Onward m (answered_by (λ _. pruned) r)) (prune_accepted c m asked g v h below held wide)
       (record {
-        accepted = λ e k. let z : ◌≡◌ {A = ℕ} 0 1 = cc in omega arith;
+        accepted = λ e k. cc;
         less = omega (arith, weight_closed c.qubits m.opened v fits.of_opened below (all_in_has (member m.opened) (c.of_generator g) wide v held));
         one_more = refl;
       })
@@ -103,7 +103,7 @@ module _ (c : Layout) (sound : Sound c) (m : Model) (asked : first_no (pattern_q
   flip_onward g f h some =
       subst (λ r. Onward m (answered_by (λ p. flipped p.0 p.1) r)) (flip_accepted c m asked g f h some)
       (record {
-        accepted = λ e k. let z : ◌≡◌ {A = ℕ} 0 1 = cc in omega arith;
+        accepted = λ e k. cc;
         less = omega (arith, left_by_none, lowering_lowers (left_by c m.remaining) (open_in c (member m.opened) g) f some);
         one_more = refl;
       })

@@ -20,9 +20,6 @@ module _ (c : Layout) (m : Model) where
   pub flip_next : (g : ℕ) → NothingCloses c m → Some g ≡ lowest c.generators (lowerable c m) → Some (flip g) ≡ next c m
   flip_next g shut is = flip_by shut (Some g) is
 
-  pub flip_ended : NothingCloses c m → None ≡ lowest c.generators (lowerable c m) → next c m ≡ None
-  flip_ended shut is = sym (flip_by shut None is)
-
   -- a flip leaves the open qubits
   pub flip_opened : (g : ℕ) → (moved c m (flip g)).opened ≡ m.opened
   flip_opened g = flip_either c m (λ r. r.1.opened ≡ m.opened) g (λ _. refl) (λ f e. refl)

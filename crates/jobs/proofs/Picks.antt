@@ -26,21 +26,21 @@ or_else_some (Some y) p x e = inl e
 
 pub or_else_none : {X : Type 0} (o p : Option X) → or_else o p ≡ None → (o ≡ None) × (p ≡ None)
 or_else_none None p e = (refl, e)
-or_else_none (Some y) p e = let z : ◌≡◌ {A = ℕ} 0 1 = cc in absurd (omega arith)
+or_else_none (Some y) p e = absurd (cc)
 
 pub mapped_some : {X Y : Type 0} (f : X → Y) (o : Option X) (y : Y) → option_map f o ≡ Some y → (x : X) × (o ≡ Some x) × (f x ≡ y)
-mapped_some f None y e = let z : ◌≡◌ {A = ℕ} 0 1 = cc in absurd (omega arith)
+mapped_some f None y e = absurd (cc)
 mapped_some f (Some x) y e = (x, refl, cc)
 
 -- ---- the lowest, and the least
 
 pub lowest_some : (n : ℕ) (s : Set) (k : ℕ) → lowest n s ≡ Some k → (k < n) × (s k ≡ true)
-lowest_some zero s k e = let z : ◌≡◌ {A = ℕ} 0 1 = cc in absurd (omega arith)
+lowest_some zero s k e = absurd (cc)
 lowest_some (suc n) s k e = part (lowest n s) (lowest_some n s k) refl e
   where
     here : (b : Bool) → s n ≡ b → cond b (Some n) None ≡ Some k → (k < suc n) × (s k ≡ true)
     here true q e = let same : n ≡ k = cc in (omega arith, ap s (sym same) ∙ q)
-    here false q e = let z : ◌≡◌ {A = ℕ} 0 1 = cc in absurd (omega arith)
+    here false q e = absurd (cc)
 
     part : (o : Option ℕ) → (lowest n s ≡ Some k → (k < n) × (s k ≡ true)) → lowest n s ≡ o → or_at o s n ≡ Some k → (k < suc n) × (s k ≡ true)
     part (Some j) known q e = let r = known (q ∙ e) in (omega (arith, r.0), r.1)

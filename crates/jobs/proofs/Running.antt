@@ -1,12 +1,11 @@
 -- A run in progress: the moves made so far, and those to come. Assumes nothing.
-use Rattle.std.proofs.Common.{◌≡◌, ℕ, ◌+◌, ◌*◌, ◌<◌, ◌≤◌, List, [], ◌∷◌, Some, None, Ok, Err, sym, refl, ap, ◌∙◌, arith}
-use Rattle.refusals.specs.declared.Refusal.{Refusal}
+use Rattle.std.proofs.Common.{◌≡◌, ℕ, ◌+◌, ◌*◌, ◌<◌, ◌≤◌, List, [], ◌∷◌, Some, None, Ok, sym, ap, ◌∙◌, arith}
 use Rattle.refusals.specs.Questions.{first_no, answer}
-use Rattle.refusals.proofs.Asking.{answer_ok, answer_err}
+use Rattle.refusals.proofs.Asking.{answer_ok}
 use Rattle.verdicts.specs.declared.Verdict.{Verdict}
 use Rattle.codes.specs.Layouts.{Layout, Sound, most_qubits, most_rows}
 use Rattle.moves.specs.Jobs.{Model, Outcome, pattern_questions}
-use Rattle.moves.proofs.Asked.{refused_at, accepted_at}
+use Rattle.moves.proofs.Asked.{accepted_at}
 use Rattle.jobs.specs.declared.answers.Run.{Run}
 use Rattle.jobs.specs.declared.counting.Counts.{Counts}
 use Rattle.jobs.specs.Moving.{Move, peel, prune, flip, moved, moved_all, next}
@@ -35,9 +34,6 @@ one_together n (prune g v) = omega arith
 one_together n (flip g) = omega arith
 
 module _ (c : Layout) (sound : Sound c) (n₀ : Counts) (start : Model) where
-  pub begins : first_no (pattern_questions c start) ≡ None → Came c n₀ start n₀ start
-  begins asked = record { asked = asked; few = omega arith; counts = refl; after = refl }
-
   module _ (n : Counts) (m : Model) (way : Came c n₀ start n m) where
     -- the run from m, where its next move is known
     from_next : (k : Move) → Some k ≡ next c m → run_moves c m ≡ k ∷ run_moves c (moved c m k)
@@ -79,11 +75,6 @@ few_moves c sound m asked = omega (arith, enough_small c m asked, sound.few_qubi
 -- ---- the run's answer
 
 module _ (c : Layout) (m : Model) where
-  pub run_refused : (e : Refusal) → Err e ≡ answer (first_no (pattern_questions c m)) → ◌≡◌ {A = Outcome Run} (Err e, m) (run_of c m)
-  run_refused e told =
-      let asked = first_no (pattern_questions c m) in
-      refused_at asked m (run_by c m (run_moves c m)) e (answer_err asked e told)
-
   pub run_accepted : Ok tt ≡ answer (first_no (pattern_questions c m)) → (n : Counts) (j : Model) (v : Verdict) → n ≡ counts_of (run_moves c m) → j ≡ moved_all c m (run_moves c m) → v ≡ verdict c j
       → ◌≡◌ {A = Outcome Run} (Ok (record { peels = n.peels; prunes = n.prunes; flips = n.flips; verdict = v }), j) (run_of c m)
   run_accepted fits n j v counts after told =

@@ -70,13 +70,11 @@ module _ (c : Layout) (sound : Sound c) where
       part None (Some x) a b k =
           let at = mapped_some (λ h. prune h (least (c.of_generator h))) (lowest c.generators (wholly_open c m)) (flip g) (b ∙ k) in
           let s : prune at.0 (least (c.of_generator at.0)) ≡ flip g = at.2 in
-          let z : ◌≡◌ {A = ℕ} 0 1 = cc in
-          absurd (omega arith)
+          absurd (cc)
       part (Some x) p a b k =
           let at = mapped_some peel (lowest c.checks (dangling c m)) (flip g) (a ∙ k) in
           let s : peel at.0 ≡ flip g = at.2 in
-          let z : ◌≡◌ {A = ℕ} 0 1 = cc in
-          absurd (omega arith)
+          absurd (cc)
 
   all_flips : (n : ℕ) (m : Model) → Quiet m → only_flips (moves_of n c m) ≡ true
   all_flips zero m q = refl

@@ -1,5 +1,5 @@
 -- The theorem on two jobs from one opening. Assumes nothing.
-use Rattle.std.proofs.Common.{◌≡◌, ℕ, Bool, true, false, ◌&&◌, List, Some, None, Ok, Option, sym, refl, ap, ◌∙◌, subst, ⊎_elim, arith}
+use Rattle.std.proofs.Common.{◌≡◌, ℕ, Bool, true, false, ◌&&◌, List, Some, None, Ok, Option, sym, refl, ap, ◌∙◌, subst, ⊎_elim}
 use Rattle.std.proofs.lemmas.Bool.{cases_Bool, both_ways, and_parts}
 use Rattle.refusals.specs.declared.Refusal.{Refusal}
 use Rattle.refusals.specs.Questions.{first_no}
@@ -116,7 +116,7 @@ accepted_opening c m syndrome erasure e = part (first_no (opening_questions c m 
   where
     part : (o : Option Refusal) → (refused_or {X = Unit {0}} o m (Ok tt, opening c syndrome erasure)).0 ≡ Ok tt → o ≡ None
     part None e = refl
-    part (Some r) e = let z : ◌≡◌ {A = ℕ} 0 1 = cc in absurd (omega arith)
+    part (Some r) e = absurd (cc)
 
 module _ (c : Layout) (m : Model) (syndrome erasure : List ℕ) (accepted : (open_of c m syndrome erasure).0 ≡ Ok tt) where
   asked : first_no (opening_questions c m syndrome erasure) ≡ None

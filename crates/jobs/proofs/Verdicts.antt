@@ -1,5 +1,5 @@
 -- What verdicts tell. Assumes nothing.
-use Rattle.std.proofs.Common.{◌≡◌, ℕ, ◌<◌, Bool, true, false, cond, not, ◌&&◌, ◌||◌, List, [], ◌∷◌, is_some, None, filter, sym, refl, ap, ◌∙◌, ap₂, arith}
+use Rattle.std.proofs.Common.{◌≡◌, ℕ, ◌<◌, Bool, true, false, cond, not, ◌&&◌, ◌||◌, List, [], ◌∷◌, is_some, None, filter, sym, refl, ap, ◌∙◌, ap₂}
 use mathlib.Core.Bool.{and-true}
 use Rattle.std.proofs.lemmas.Bool.{both_ways, and_parts, or_from, or_parts, not-true, not-false, not_from_true}
 use Rattle.verdicts.specs.declared.Verdict.{Verdict}
@@ -23,31 +23,31 @@ five a b d e f = first_that_fits ((a, Contradicted) ∷ (b, Settled) ∷ (d, Mov
 
 at_settled : (a b d e f : Bool) → five a b d e f ≡ Settled → (a ≡ false) × (b ≡ true)
 unfolding five
-at_settled true b d e f h = let z : ◌≡◌ {A = ℕ} 0 1 = cc in absurd (omega arith)
+at_settled true b d e f h = absurd (cc)
 at_settled false true d e f h = (refl, refl)
-at_settled false false true e f h = let z : ◌≡◌ {A = ℕ} 0 1 = cc in absurd (omega arith)
-at_settled false false false true f h = let z : ◌≡◌ {A = ℕ} 0 1 = cc in absurd (omega arith)
-at_settled false false false false true h = let z : ◌≡◌ {A = ℕ} 0 1 = cc in absurd (omega arith)
-at_settled false false false false false h = let z : ◌≡◌ {A = ℕ} 0 1 = cc in absurd (omega arith)
+at_settled false false true e f h = absurd (cc)
+at_settled false false false true f h = absurd (cc)
+at_settled false false false false true h = absurd (cc)
+at_settled false false false false false h = absurd (cc)
 
 at_contradicted : (a b d e f : Bool) → five a b d e f ≡ Contradicted → a ≡ true
 unfolding five
 at_contradicted true b d e f h = refl
-at_contradicted false true d e f h = let z : ◌≡◌ {A = ℕ} 0 1 = cc in absurd (omega arith)
-at_contradicted false false true e f h = let z : ◌≡◌ {A = ℕ} 0 1 = cc in absurd (omega arith)
-at_contradicted false false false true f h = let z : ◌≡◌ {A = ℕ} 0 1 = cc in absurd (omega arith)
-at_contradicted false false false false true h = let z : ◌≡◌ {A = ℕ} 0 1 = cc in absurd (omega arith)
-at_contradicted false false false false false h = let z : ◌≡◌ {A = ℕ} 0 1 = cc in absurd (omega arith)
+at_contradicted false true d e f h = absurd (cc)
+at_contradicted false false true e f h = absurd (cc)
+at_contradicted false false false true f h = absurd (cc)
+at_contradicted false false false false true h = absurd (cc)
+at_contradicted false false false false false h = absurd (cc)
 
 -- without the two tests for moves
 at_still : (a b d e f : Bool) → d ≡ false → f ≡ false → five a b d e f ≡ Moving → ⊥
 unfolding five
-at_still true b d e f p q h = let z : ◌≡◌ {A = ℕ} 0 1 = cc in omega arith
-at_still false true d e f p q h = let z : ◌≡◌ {A = ℕ} 0 1 = cc in omega arith
+at_still true b d e f p q h = cc
+at_still false true d e f p q h = cc
 at_still false false true e f p q h = both_ways true p refl
-at_still false false false true f p q h = let z : ◌≡◌ {A = ℕ} 0 1 = cc in omega arith
+at_still false false false true f p q h = cc
 at_still false false false false true p q h = both_ways true q refl
-at_still false false false false false p q h = let z : ◌≡◌ {A = ℕ} 0 1 = cc in omega arith
+at_still false false false false false p q h = cc
 
 -- every test fails
 pub record Fails (a b d e f : Bool) : Type 0 where
@@ -59,24 +59,16 @@ pub record Fails (a b d e f : Bool) : Type 0 where
 
 at_stalled : (a b d e f : Bool) → five a b d e f ≡ Stalled → Fails a b d e f
 unfolding five
-at_stalled true b d e f h = let z : ◌≡◌ {A = ℕ} 0 1 = cc in absurd (omega arith)
-at_stalled false true d e f h = let z : ◌≡◌ {A = ℕ} 0 1 = cc in absurd (omega arith)
-at_stalled false false true e f h = let z : ◌≡◌ {A = ℕ} 0 1 = cc in absurd (omega arith)
-at_stalled false false false true f h = let z : ◌≡◌ {A = ℕ} 0 1 = cc in absurd (omega arith)
-at_stalled false false false false true h = let z : ◌≡◌ {A = ℕ} 0 1 = cc in absurd (omega arith)
+at_stalled true b d e f h = absurd (cc)
+at_stalled false true d e f h = absurd (cc)
+at_stalled false false true e f h = absurd (cc)
+at_stalled false false false true f h = absurd (cc)
+at_stalled false false false false true h = absurd (cc)
 at_stalled false false false false false h = record { first = refl; second = refl; third = refl; fourth = refl; fifth = refl }
 
 to_stalled : (a b d e f : Bool) → Fails a b d e f → five a b d e f ≡ Stalled
 unfolding five
-to_stalled a b d e f h =
-    ap (λ x. cond x Contradicted (five_rest b d e f)) h.first
-    ∙ ap (λ x. cond x Settled (cond d Moving (cond e Matched (cond f Moving Stalled)))) h.second
-    ∙ ap (λ x. cond x Moving (cond e Matched (cond f Moving Stalled))) h.third
-    ∙ ap (λ x. cond x Matched (cond f Moving Stalled)) h.fourth
-    ∙ ap (λ x. cond x Moving Stalled) h.fifth
-  where
-    five_rest : Bool → Bool → Bool → Bool → Verdict
-    five_rest b d e f = cond b Settled (cond d Moving (cond e Matched (cond f Moving Stalled)))
+to_stalled a b d e f h = rw (h.first, h.second, h.third, h.fourth, h.fifth) refl
 
 -- ---- a job's verdict
 

@@ -8,7 +8,8 @@ ghost use Rattle.jobs.specs.Closings.{as_move, Passed, NextClosing, NothingClose
 ghost use Rattle.jobs.specs.Progress.{with_move, none_yet, Came};
 
 use crate::counting::Counts;
-use crate::lowest::{lowest_check, lowest_dangling, lowest_qubit, lowest_wholly_open};
+use crate::lowest::{lowest_check, lowest_qubit};
+use crate::position::Position;
 use codes::code::{Check, Code, Generator, Qubit};
 use moves::job::Job;
 
@@ -20,7 +21,7 @@ pub(crate) enum Closing {
 }
 
 // Where the next one is looked for: no check below `check` is dangling, and no generator below `generator` is wholly open.
-#[derive(Clone, Copy)]
+#[derive(Clone, Copy, Default)]
 pub(crate) struct Cursors {
     check: u32,
     generator: u32,
@@ -64,19 +65,22 @@ impl Counts {
     }
 }
 
-// The next step: a peel of the lowest dangling check; else a prune of the lowest generator that is all open, at its lowest qubit.
-fn next_closing<C: Code>(code: &C, job: &Job, from: Cursors) -> Option<Closing>
-    requires { Passed (C.layout code.now) (model job.now) from }
-    ensures { NextClosing (C.layout code.now) (model job.now) result }
-{
-    if let Some((u, v)) = lowest_dangling(code, job, from.check) {
-        return Some(Closing::Peel(u, v));
+impl<'a, 'b, C: Code> Position<'a, 'b, C> {
+    // The next step: a peel of the lowest dangling check; else a prune of the lowest generator that is all open, at its lowest qubit.
+    fn next_closing(&self, from: Cursors) -> Option<Closing>
+        requires { Passed (C.layout self.now.code.now) (model self.now.job.now) from }
+        ensures { NextClosing (C.layout self.now.code.now) (model self.now.job.now) result }
+    {
+        if let Some((u, v)) = self.lowest_dangling(from.check) {
+            return Some(Closing::Peel(u, v));
+        }
+        let g = self.lowest_wholly_open(from.generator)?;
+        Some(Closing::Prune(g, lowest_qubit(self.code, g)))
     }
-    let g = lowest_wholly_open(code, job, from.generator)?;
-    Some(Closing::Prune(g, lowest_qubit(code, g)))
 }
 
 // Makes the step, by the call that a single move is made with; a refused one leaves the job as it was.
+// The code and the job that is changed stay two parameters: each method of a struct that holds a `&mut` would have to promise that it still holds the same one.
 fn make<C: Code>(code: &C, job: &mut Job, step: Closing)
     ensures { model job.new ≡ moved (C.layout code.now) (model job.old) (as_move step) }
 {
@@ -96,21 +100,12 @@ pub(crate) fn close_all<C: Code>(code: &C, job: &mut Job) -> Counts
     ensures came { Came (C.layout code.now) none_yet (model job.old) result (model job.new) }
     ensures closed { NothingCloses (C.layout code.now) (model job.new) }
 {
-    let mut counts = Counts {
-        peels: 0,
-        prunes: 0,
-        flips: 0,
-    };
-    let mut from = Cursors {
-        check: 0,
-        generator: 0,
-    };
-    loop {
-        let Some(step) = next_closing(code, job, from) else {
-            return counts;
-        };
+    let mut counts = Counts::default();
+    let mut from = Cursors::default();
+    while let Some(step) = (Position { code, job }).next_closing(from) {
         make(code, job, step);
         from = from.after(code, step);
         counts = counts.with(step);
     }
+    counts
 }

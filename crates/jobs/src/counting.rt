@@ -1,6 +1,6 @@
 // How many moves of each kind a run made.
 
-#[derive(Clone, Copy)]
+#[derive(Clone, Copy, Default)]
 pub(crate) struct Counts {
     pub(crate) peels: u32,
     pub(crate) prunes: u32,

@@ -9,22 +9,21 @@ ghost use Rattle.jobs.specs.Closings.{NothingCloses};
 ghost use Rattle.jobs.specs.Progress.{together, Came};
 
 use crate::counting::Counts;
-use crate::lowest::lowest_lowerable;
+use crate::position::Position;
 use codes::code::Code;
 use moves::job::Job;
 
 // Flips until no generator has a set lowering the weight; answers the counts with these flips. A flip leaves the open qubits, so nothing can be closed after it either.
-pub(crate) fn flip_all<C: Code>(code: &C, job: &mut Job, counts: Counts) -> Counts
+pub(crate) fn flip_all<C: Code>(code: &C, job: &mut Job, mut counts: Counts) -> Counts
     requires patterns { first_no (pattern_questions (C.layout code.now) (model job.old)) ≡ None }
     requires closed { NothingCloses (C.layout code.now) (model job.old) }
     requires few { together counts + enough (model job.old) < 2 ^ 32 }
     ensures came { Came (C.layout code.now) counts (model job.old) result (model job.new) }
     ensures ended { next (C.layout code.now) (model job.new) ≡ None }
 {
-    let mut flips = counts.flips;
-    while let Some(g) = lowest_lowerable(code, job, 0) {
+    while let Some(g) = (Position { code, job }).lowest_lowerable() {
         let _ = job.flip(code, g);
-        flips += 1;
+        counts.flips += 1;
     }
-    Counts { flips, ..counts }
+    counts
 }

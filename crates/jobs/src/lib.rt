@@ -6,5 +6,6 @@ mod closing;
 mod counting;
 mod flipping;
 mod lowest;
+mod position;
 pub mod run;
 pub mod verdict;

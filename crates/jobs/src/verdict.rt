@@ -8,7 +8,7 @@ ghost use Rattle.jobs.specs.Choosing.{some_below};
 ghost use Rattle.jobs.specs.Verdicts.{unmet, verdict, verdict_of};
 ghost use Rattle.jobs.specs.Laws.{StalledExactly};
 
-use crate::lowest::{lowest_dangling, lowest_lowerable, lowest_wholly_open};
+use crate::position::Position;
 use codes::code::{Check, Code};
 use moves::job::Job;
 use patterns::items::contains;
@@ -20,55 +20,48 @@ use verdicts::Verdict;
 fn has_some(bits: &[u8], count: u32) -> bool
     ensures { result ≡ some_below count (member bits.now) }
 {
-    for k in 0..count {
-        if contains(bits, k) {
-            return true;
+    (0..count).any(|k| contains(bits, k))
+}
+
+impl<'a, 'b, C: Code> Position<'a, 'b, C> {
+    // Whether the check is in the remaining syndrome, and none of its qubits is open.
+    fn is_unmet(&self, u: Check) -> bool
+        requires { u.0 < (C.layout self.now.code.now).checks }
+        ensures { result ≡ unmet (C.layout self.now.code.now) (model self.now.job.now) u.0 }
+    {
+        let job = self.job;
+        contains(job.remaining, u.0) && !meets(self.code, job.opened, u)
+    }
+
+    // Whether there is a check that no change of open qubits can meet.
+    fn is_contradicted(&self) -> bool
+        ensures { result ≡ some_below (C.layout self.now.code.now).checks (unmet (C.layout self.now.code.now) (model self.now.job.now)) }
+    {
+        (0..self.code.checks()).any(|u| self.is_unmet(Check(u)))
+    }
+
+    // The verdict: the first that fits.
+    pub(crate) fn verdict(&self) -> Verdict
+        ensures { result ≡ verdict (C.layout self.now.code.now) (model self.now.job.now) }
+    {
+        let job = self.job;
+        if self.is_contradicted() {
+            return Verdict::Contradicted;
         }
-    }
-    false
-}
-
-// Whether the check is in the remaining syndrome, and none of its qubits is open.
-fn is_unmet<C: Code>(code: &C, job: &Job, u: Check) -> bool
-    requires { u.0 < (C.layout code.now).checks }
-    ensures { result ≡ unmet (C.layout code.now) (model job.now) u.0 }
-{
-    contains(job.remaining, u.0) && !meets(code, job.opened, u)
-}
-
-// Whether there is a check that no change of open qubits can meet.
-fn is_contradicted<C: Code>(code: &C, job: &Job) -> bool
-    ensures { result ≡ some_below (C.layout code.now).checks (unmet (C.layout code.now) (model job.now)) }
-{
-    for u in 0..code.checks() {
-        if is_unmet(code, job, Check(u)) {
-            return true;
+        if !has_some(job.opened, self.code.qubits()) {
+            return Verdict::Settled;
         }
+        if self.lowest_dangling(0).is_some() || self.lowest_wholly_open(0).is_some() {
+            return Verdict::Moving;
+        }
+        if !has_some(job.remaining, self.code.checks()) {
+            return Verdict::Matched;
+        }
+        if self.lowest_lowerable().is_some() {
+            return Verdict::Moving;
+        }
+        Verdict::Stalled
     }
-    false
-}
-
-// The verdict on a job whose patterns are well formed: the first that fits.
-pub(crate) fn standing<C: Code>(code: &C, job: &Job) -> Verdict
-    requires { first_no (pattern_questions (C.layout code.now) (model job.now)) ≡ None }
-    ensures { result ≡ verdict (C.layout code.now) (model job.now) }
-{
-    if is_contradicted(code, job) {
-        return Verdict::Contradicted;
-    }
-    if !has_some(job.opened, code.qubits()) {
-        return Verdict::Settled;
-    }
-    if lowest_dangling(code, job, 0).is_some() || lowest_wholly_open(code, job, 0).is_some() {
-        return Verdict::Moving;
-    }
-    if !has_some(job.remaining, code.checks()) {
-        return Verdict::Matched;
-    }
-    if lowest_lowerable(code, job, 0).is_some() {
-        return Verdict::Moving;
-    }
-    Verdict::Stalled
 }
 
 // The verdict on a job, which stays as it is. A job is stalled exactly when something remains, no move applies and nothing is contradicted.
@@ -77,5 +70,5 @@ pub fn verdict<C: Code>(code: &C, job: &Job) -> Result<Verdict, Refusal>
     ensures stalled { StalledExactly (C.layout code.now) }
 {
     job.ask_patterns(code)?;
-    Ok(standing(code, job))
+    Ok(Position { code, job }.verdict())
 }

@@ -1,4 +1,3 @@
-pub mod Scanning
 pub mod Asked
 pub mod Closing
 pub mod Peels

@@ -1,5 +1,5 @@
 -- A job as bytes, and what changes in it. Assumes nothing.
-use Rattle.std.specs.Prelude.{ℕ, ◌+◌, min, false, ◌&&◌, List, [], ◌∷◌, Some, None, Ok, Err, Option, Result, ◌==◌}
+use Rattle.std.specs.Prelude.{ℕ, ◌+◌, min, Bool, false, ◌&&◌, List, [], ◌∷◌, Some, None, Ok, Err, Option, Result, ◌==◌}
 use Rattle.refusals.specs.declared.Refusal.{Refusal}
 use Rattle.refusals.specs.declared.Refusal.TheVariants.{WrongPatternLength, UnusedBitSet}
 use Rattle.refusals.specs.Questions.{Question, first_no}
@@ -40,10 +40,14 @@ closed c m v = record {
   moves = m.moves;
 }
 
+-- whether a job's patterns have the lengths of so many checks and qubits
+abbrev pub lengths : ℕ → ℕ → Model → Bool
+lengths checks qubits m = fitting checks m.remaining && (fitting qubits m.opened && fitting qubits m.correction)
+
 -- what every call asks of a job's patterns: the lengths of all, and then the unused bits of all
 abbrev pub pattern_questions : Layout → Model → List Question
 pattern_questions c m =
-    (fitting c.checks m.remaining && (fitting c.qubits m.opened && fitting c.qubits m.correction), WrongPatternLength)
+    (lengths c.checks c.qubits m, WrongPatternLength)
     ∷ (tidy c.checks m.remaining && (tidy c.qubits m.opened && tidy c.qubits m.correction), UnusedBitSet)
     ∷ []
 
@@ -63,7 +67,7 @@ opening c syndrome erasure = record { remaining = syndrome; opened = erasure; co
 -- what is asked before a job is opened: of the patterns that are only filled, their lengths alone
 abbrev pub opening_questions : Layout → Model → List ℕ → List ℕ → List Question
 opening_questions c m syndrome erasure =
-    ((fitting c.checks syndrome && fitting c.qubits erasure) && (fitting c.checks m.remaining && (fitting c.qubits m.opened && fitting c.qubits m.correction)), WrongPatternLength)
+    ((fitting c.checks syndrome && fitting c.qubits erasure) && lengths c.checks c.qubits m, WrongPatternLength)
     ∷ (tidy c.checks syndrome && tidy c.qubits erasure, UnusedBitSet)
     ∷ []
 

@@ -1,10 +1,10 @@
 // What every call on a job asks and reads first.
-ghost use Rattle.std.specs.Prelude.{◌≡◌, ◌<◌};
+ghost use Rattle.std.specs.Prelude.{◌≡◌};
 ghost use Rattle.std.specs.Option.{option_map};
 ghost use Rattle.refusals.specs.Questions.{first_no, answer};
 ghost use Rattle.patterns.specs.Patterns.{member};
-ghost use Rattle.moves.specs.Jobs.{pattern_questions};
-ghost use Rattle.moves.specs.Moves.{single, all_in, meeting};
+ghost use Rattle.moves.specs.Jobs.{lengths, pattern_questions};
+ghost use Rattle.scans.specs.Scans.{only_one, all_held};
 ghost use Rattle.flips.specs.Flips.{best_flip};
 ghost use Rattle.flips.specs.Held.{told};
 ghost use Rattle.moves.specs.Held.{model};
@@ -26,10 +26,7 @@ impl<'a> Job<'a> {
     {
         let qubits = code.qubits();
         let checks = code.checks();
-        if !fits(self.remaining, checks)
-            || !fits(self.opened, qubits)
-            || !fits(self.correction, qubits)
-        {
+        if !self.fits(checks, qubits) {
             return Err(Refusal::WrongPatternLength);
         }
         if !unused_are_zero(self.remaining, checks)
@@ -41,6 +38,13 @@ impl<'a> Job<'a> {
         Ok(())
     }
 
+    // Whether the patterns have the lengths of so many checks and qubits.
+    pub(crate) fn fits(&self, checks: u32, qubits: u32) -> bool
+        ensures { result ≡ lengths checks qubits (model self.now) }
+    {
+        fits(self.remaining, checks) && fits(self.opened, qubits) && fits(self.correction, qubits)
+    }
+
     // Whether the check is in the remaining syndrome.
     pub(crate) fn remains(&self, u: Check) -> bool
         ensures { result ≡ member (model self.now).remaining u.0 }
@@ -49,23 +53,21 @@ impl<'a> Job<'a> {
     }
 
     // The one open qubit of the check, if there is just one.
-    pub(crate) fn only_open<C: Code>(&self, code: &C, u: Check) -> Option<Qubit>
-        requires { u.0 < (C.layout code.now).checks }
-        ensures { option_map (λ v. v.0) result ≡ single (meeting (C.layout code.now) (member (model self.now).opened) u.0) }
+    pub fn only_open<C: Code>(&self, code: &C, u: Check) -> Option<Qubit>
+        ensures { option_map (λ v. v.0) result ≡ only_one (C.layout code.now) (member (model self.now).opened) u.0 }
     {
         only_one(code, self.opened, u)
     }
 
     // Whether all qubits of the generator are open.
-    pub(crate) fn all_open<C: Code>(&self, code: &C, g: Generator) -> bool
-        requires { g.0 < (C.layout code.now).generators }
-        ensures { result ≡ all_in (member (model self.now).opened) ((C.layout code.now).of_generator g.0) }
+    pub fn all_open<C: Code>(&self, code: &C, g: Generator) -> bool
+        ensures { result ≡ all_held (C.layout code.now) (member (model self.now).opened) g.0 }
     {
         all_held(code, self.opened, g)
     }
 
     // The best set of the generator's open qubits, if it lowers the weight of the remaining syndrome.
-    pub(crate) fn best_flip<C: Code>(&self, code: &C, g: Generator) -> Option<Flip>
+    pub fn best_flip<C: Code>(&self, code: &C, g: Generator) -> Option<Flip>
         ensures { option_map told result ≡ best_flip (C.layout code.now) (model self.now).remaining (model self.now).opened g.0 }
     {
         best_flip(code, self.remaining, self.opened, g)

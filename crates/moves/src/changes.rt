@@ -1,12 +1,13 @@
 // Changes of a pattern, and of the remaining syndrome.
 ghost use Rattle.std.specs.Prelude.{◌≡◌, ◌<◌, true};
-ghost use Rattle.std.specs.List.{AllByRecursion};
+ghost use Rattle.std.specs.List.{All};
 ghost use Rattle.patterns.specs.Sets.{has, Apart};
 ghost use Rattle.patterns.specs.Patterns.{fitting, added, toggled_all};
 ghost use Rattle.flips.specs.Flips.{remaining_after};
 
 use codes::code::{Code, Qubit};
-use codes::limits::MOST_WEIGHT;
+use codes::families::ByCheck;
+use matrices::families::Neighbours;
 use patterns::items::toggle;
 
 // Changes every check of qubit v.
@@ -15,11 +16,8 @@ pub(crate) fn toggle_checks<C: Code>(code: &C, remaining: &mut [u8], v: Qubit)
     requires fits { fitting (C.layout code.now).checks remaining.old ≡ true }
     ensures { remaining.new ≡ added (C.layout code.now).checks remaining.old (has ((C.layout code.now).checks_of v.0)) }
 {
-    for k in 0..MOST_WEIGHT {
-        let Some(u) = code.qubit_check(v, k) else {
-            break;
-        };
-        toggle(remaining, u.0);
+    for u in Neighbours::of(ByCheck { code }, v.0) {
+        toggle(remaining, u);
     }
 }
 
@@ -35,7 +33,7 @@ pub(crate) fn toggle_all(bits: &mut [u8], items: &[u32])
 // Changes every check that holds an odd number of the qubits.
 pub(crate) fn toggle_syndrome<C: Code>(code: &C, remaining: &mut [u8], qubits: &[u32])
     requires fits { fitting (C.layout code.now).checks remaining.old ≡ true }
-    requires in_range { AllByRecursion (λ v. v < (C.layout code.now).qubits) qubits.now }
+    requires in_range { All (λ v. v < (C.layout code.now).qubits) qubits.now }
     requires apart { Apart qubits.now }
     ensures { remaining.new ≡ remaining_after (C.layout code.now) remaining.old qubits.now }
 {

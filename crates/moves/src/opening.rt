@@ -16,13 +16,7 @@ impl<'a> Job<'a> {
     {
         let qubits = code.qubits();
         let checks = code.checks();
-        if !fits(syndrome, checks) || !fits(erasure, qubits) {
-            return Err(Refusal::WrongPatternLength);
-        }
-        if !fits(self.remaining, checks)
-            || !fits(self.opened, qubits)
-            || !fits(self.correction, qubits)
-        {
+        if !fits(syndrome, checks) || !fits(erasure, qubits) || !self.fits(checks, qubits) {
             return Err(Refusal::WrongPatternLength);
         }
         if !unused_are_zero(syndrome, checks) || !unused_are_zero(erasure, qubits) {

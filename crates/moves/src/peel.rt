@@ -9,25 +9,32 @@ use codes::code::{Check, Code, Qubit};
 use patterns::items::toggle;
 use refusals::Refusal;
 
+// What a peel did: the qubit that it closed, and whether the correction changed there.
+#[derive(Clone, Copy, PartialEq, Eq, Debug)]
+pub struct Peeled {
+    pub qubit: Qubit,
+    pub changed: bool,
+}
+
 impl<'a> Job<'a> {
-    // Peels the check; answers its open qubit, with 1 or 0 for whether the qubit changed.
-    pub fn peel<C: Code>(&mut self, code: &C, u: Check) -> Result<(Qubit, u8), Refusal>
+    // Peels the check, which closes its open qubit.
+    pub fn peel<C: Code>(&mut self, code: &C, u: Check) -> Result<Peeled, Refusal>
         ensures { (by_number result, model self.new) ≡ peel_of (C.layout code.now) (model self.old) u.0 }
     {
         self.ask_patterns(code)?;
         let Some(_size) = code.check_size(u) else {
             return Err(Refusal::NumberOutOfRange);
         };
-        let Some(v) = self.only_open(code, u) else {
+        let Some(qubit) = self.only_open(code, u) else {
             return Err(Refusal::NotDangling);
         };
-        let changes = self.remains(u);
-        if changes {
-            toggle(self.correction, v.0);
-            toggle_checks(code, self.remaining, v);
+        let changed = self.remains(u);
+        if changed {
+            toggle(self.correction, qubit.0);
+            toggle_checks(code, self.remaining, qubit);
         }
-        toggle(self.opened, v.0);
+        toggle(self.opened, qubit.0);
         self.moves = one_more(self.moves);
-        Ok((v, u8::from(changes)))
+        Ok(Peeled { qubit, changed })
     }
 }

@@ -1,9 +1,8 @@
 -- A pattern that is filled item by item, in rising order. Assumes nothing.
-use Rattle.std.proofs.Common.{◌≡◌, ℕ, ◌+◌, ◌<◌, true, false, ◌&&◌, eqb, ltb, List, replicate, sym, refl, ap, ◌∙◌, ap₂, ⊎_elim, arith}
-use Rattle.std.proofs.lemmas.Bool.{cases_eq, cases_lt, eq-eqb, ne_eqb, lt-ltb, le-ltb}
+use Rattle.std.proofs.Common.{◌≡◌, ℕ, ◌+◌, ◌<◌, true, false, ◌&&◌, eqb, ltb, List, replicate, sym, refl, ap, ◌∙◌, arith}
+use Rattle.std.proofs.lemmas.Grind.{common_steps}
 use Rattle.patterns.specs.Sets.{Set, ◌⊕◌}
 use Rattle.patterns.specs.Patterns.{width, pattern, toggled, added}
-use Rattle.patterns.proofs.Sums.{plus_zero}
 use Rattle.patterns.proofs.Packed.{pattern_same, pattern_well}
 use Rattle.patterns.proofs.Added.{added_added, added_none, added_to_none}
 use Rattle.patterns.proofs.Toggled.{toggled_is}
@@ -13,29 +12,17 @@ abbrev pub front : ℕ → Set → Set
 front u s k = ltb k u && s k
 
 pub filled_none : (c : ℕ) (s : Set) → replicate (width c) 0 ≡ pattern c (front 0 s)
-filled_none c s =
-    added_none c (replicate (width c) 0) (front 0 s) (λ k. ap (λ b. b && s k) (le-ltb k 0 (omega arith))) ∙ added_to_none c (front 0 s)
+filled_none c s = added_none c (replicate (width c) 0) (front 0 s) (λ k. grind (arith, common_steps)) ∙ added_to_none c (front 0 s)
 
 -- cleared bytes are the empty set
 pub filled_nothing : (c : ℕ) → replicate (width c) 0 ≡ pattern c (λ _. false)
 filled_nothing c = added_none c (replicate (width c) 0) (λ _. false) (λ k. refl) ∙ added_to_none c (λ _. false)
 
 front_more : (u k : ℕ) (s : Set) → s u ≡ true → (front u s k ⊕ eqb u k) ≡ front (u + 1) s k
-front_more u k s on =
-    ⊎_elim
-    (λ e. ap₂ (λ b x. (b && s k) ⊕ x) (le-ltb k u (omega arith)) (eq-eqb u k (sym e)) ∙ sym (ap₂ ◌&&◌ (lt-ltb k (u + 1) (omega arith)) (ap s e ∙ on)))
-    (λ e.
-    ap (λ x. front u s k ⊕ x) (ne_eqb u k (λ i. e (sym i)))
-    ∙ plus_zero (front u s k)
-    ∙ ap (λ b. b && s k) (⊎_elim (λ l. lt-ltb k u l ∙ sym (lt-ltb k (u + 1) (omega arith))) (λ l. le-ltb k u l ∙ sym (le-ltb k (u + 1) (omega arith))) (cases_lt k u)))
-    (cases_eq k u)
+front_more u k s on = grind (arith, common_steps)
 
 front_skip : (u k : ℕ) (s : Set) → s u ≡ false → front u s k ≡ front (u + 1) s k
-front_skip u k s off =
-    ⊎_elim
-    (λ e. ap (λ b. b && s k) (le-ltb k u (omega arith)) ∙ sym (ap₂ ◌&&◌ (lt-ltb k (u + 1) (omega arith)) (ap s e ∙ off)))
-    (λ e. ap (λ b. b && s k) (⊎_elim (λ l. lt-ltb k u l ∙ sym (lt-ltb k (u + 1) (omega arith))) (λ l. le-ltb k u l ∙ sym (le-ltb k (u + 1) (omega arith))) (cases_lt k u)))
-    (cases_eq k u)
+front_skip u k s off = grind (arith, common_steps)
 
 -- one item more, which is in the set
 pub filled_more : (c u : ℕ) (s : Set) (p : List ℕ) → u < c → s u ≡ true → p ≡ pattern c (front u s) → toggled p u ≡ pattern c (front (u + 1) s)
@@ -52,4 +39,4 @@ pub filled_skip : (c u : ℕ) (s : Set) (p : List ℕ) → s u ≡ false → p �
 filled_skip c u s p off e = e ∙ pattern_same c (front u s) (front (u + 1) s) (λ k _. front_skip u k s off)
 
 pub filled_all : (c u : ℕ) (s : Set) (p : List ℕ) → u ≡ c → p ≡ pattern c (front u s) → p ≡ pattern c s
-filled_all c u s p all e = e ∙ pattern_same c (front u s) s (λ k h. ap (λ b. b && s k) (lt-ltb k u (omega arith)))
+filled_all c u s p all e = e ∙ pattern_same c (front u s) s (λ k h. grind (arith, common_steps))

@@ -11,6 +11,10 @@ bit n i = n / 2 ^ i % 2 == 1
 unfoldable pub member : List ℕ → Set
 member p k = bit (slice_index p (k / 8)) (k % 8)
 
+-- whether item k has a place: its byte is there
+abbrev pub placed : List ℕ → Set
+placed p k = nat_lt (k / 8) (length p)
+
 -- item k changed: put in where it was out, taken out where it was in
 unfoldable pub toggled : List ℕ → ℕ → List ℕ
 toggled p k = slice_set p (k / 8) (bit_xor (slice_index p (k / 8)) (2 ^ (k % 8)))

@@ -13,6 +13,7 @@ fn digit(v: u8) -> u8
 }
 
 // Writes two capital digits for each byte at the front of `out`; answers how many bytes it wrote.
+#[tactic(auto, using(crate::proofs::Hexing::digits))]
 pub fn write_hex(bytes: &[u8], out: &mut [u8]) -> Result<usize, Refusal>
     ensures value { result ≡ answered (hexed bytes.now) out.old }
     ensures after { out.new ≡ written (hexed bytes.now) out.old }
@@ -20,6 +21,7 @@ pub fn write_hex(bytes: &[u8], out: &mut [u8]) -> Result<usize, Refusal>
     if bytes.len() > out.len() / 2 {
         return Err(Refusal::OutputTooShort);
     }
+    // No `chunks_exact_mut`: a proof knows nothing of what a loop over it leaves in a slice.
     for (i, b) in bytes.iter().enumerate() {
         out[2 * i] = digit(*b / 16);
         out[2 * i + 1] = digit(*b % 16);

@@ -1,18 +1,31 @@
 // The code and the job that a script works on.
-use foreign::numbers::{Asked, Numbers};
+use crate::calls::{Call, Refused, Told, accepted};
+use crate::hex::Hex;
+use foreign::numbers::Asked;
 use foreign::{kotremwa_call, kotremwa_open};
 use std::alloc::Global;
+use std::fmt;
 
 // A code by its kind and bytes, and a job by its three patterns and its count of moves.
 #[derive(Drop)]
 pub(crate) struct Table {
     heap: Global,
-    pub(crate) kind: u32,
-    pub(crate) code: Vec<u8>,
-    pub(crate) remaining: Vec<u8>,
-    pub(crate) opened: Vec<u8>,
-    pub(crate) correction: Vec<u8>,
-    pub(crate) moves: u32,
+    kind: u32,
+    code: Vec<u8>,
+    remaining: Vec<u8>,
+    opened: Vec<u8>,
+    correction: Vec<u8>,
+    moves: u32,
+}
+
+// One of these, as somebody else writes it.
+#[derive(Drop)]
+pub(crate) enum Part {
+    Code { kind: u32, bytes: Vec<u8> },
+    Remaining(Vec<u8>),
+    Opened(Vec<u8>),
+    Correction(Vec<u8>),
+    Moves(u32),
 }
 
 impl Table {
@@ -28,29 +41,34 @@ impl Table {
         }
     }
 
-    pub(crate) fn call(&mut self, call: u32, first: u32, second: u32) -> Numbers {
-        let asked = Asked {
-            call,
-            first,
-            second,
-        };
-        let mut moves = self.moves;
+    pub(crate) fn set(&mut self, part: Part) {
+        match part {
+            Part::Code { kind, bytes } => {
+                self.kind = kind;
+                self.code = bytes;
+            }
+            Part::Remaining(bytes) => self.remaining = bytes,
+            Part::Opened(bytes) => self.opened = bytes,
+            Part::Correction(bytes) => self.correction = bytes,
+            Part::Moves(count) => self.moves = count,
+        }
+    }
+
+    pub(crate) fn call(&mut self, call: Call) -> Result<Told, Refused> {
         let numbers = kotremwa_call(
             self.heap,
             self.kind,
             self.code.as_slice(),
-            &asked,
+            &Asked::from(call),
             self.remaining.as_mut_slice(),
             self.opened.as_mut_slice(),
             self.correction.as_mut_slice(),
-            &mut moves,
+            &mut self.moves,
         );
-        self.moves = moves;
-        numbers
+        Ok(call.told(accepted(numbers)?))
     }
 
-    pub(crate) fn open(&mut self, syndrome: &[u8], erasure: &[u8]) -> Numbers {
-        let mut moves = self.moves;
+    pub(crate) fn open(&mut self, syndrome: &[u8], erasure: &[u8]) -> Result<Told, Refused> {
         let numbers = kotremwa_open(
             self.heap,
             self.kind,
@@ -60,9 +78,20 @@ impl Table {
             self.remaining.as_mut_slice(),
             self.opened.as_mut_slice(),
             self.correction.as_mut_slice(),
-            &mut moves,
+            &mut self.moves,
         );
-        self.moves = moves;
-        numbers
+        accepted(numbers)?;
+        Ok(Told::Accepted)
+    }
+}
+
+// The remaining syndrome, the open set, the correction and the count of moves.
+impl fmt::Display for Table {
+    fn fmt<W: fmt::Write>(&self, f: &mut fmt::Formatter<W>) -> fmt::Result {
+        let remaining = Hex(self.remaining.as_slice());
+        let opened = Hex(self.opened.as_slice());
+        let correction = Hex(self.correction.as_slice());
+        let moves = self.moves;
+        write!(f, "{remaining} {opened} {correction} {moves}")
     }
 }

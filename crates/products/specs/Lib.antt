@@ -3,3 +3,5 @@ pub mod Products
 pub mod Evens
 pub mod Pairing
 pub mod Blocks
+pub mod Sides
+pub mod Steps

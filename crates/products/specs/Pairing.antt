@@ -27,13 +27,13 @@ module _ (w : ℕ) (some : 0 < w) (lists : ℕ → List ℕ) where
   first_apart : (x : ℕ) → Apart (lists (x / w)) → Apart (by_first w lists x)
   first_apart x h = apart_map (λ v. v * w + x % w) (lists (x / w)) (λ u v _ _. first_one w (x % w) (mod_below x w some) u v) h
 
-  first_within : (n x y : ℕ) → ((v : ℕ) → has (lists (x / w)) v ≡ true → v < n) → has (by_first w lists x) y ≡ true → y < n * w
+  pub first_within : (n x y : ℕ) → ((v : ℕ) → has (lists (x / w)) v ≡ true → v < n) → has (by_first w lists x) y ≡ true → y < n * w
   first_within n x y within h =
       let from = has_map_from (λ v. v * w + x % w) (lists (x / w)) y h in
       let b = mul-add-lt from.0 w (x % w) n (within from.0 from.1) (mod_below x w some) in
       omega (arith, b, from.2)
 
-  first_few : (most x : ℕ) → length (lists (x / w)) ≤ most → length (by_first w lists x) ≤ most
+  pub first_few : (most x : ℕ) → length (lists (x / w)) ≤ most → length (by_first w lists x) ≤ most
   first_few most x h = subst (λ k. k ≤ most) (sym (length-map (lists (x / w)) (λ v. v * w + x % w))) h
 
 pub first_paired : {most m n : ℕ} {of_row of_column : ℕ → List ℕ} (w : ℕ) → 0 < w → Paired most m n of_row of_column → Paired most (m * w) (n * w) (by_first w of_row) (by_first w of_column)
@@ -65,13 +65,13 @@ module _ (m n : ℕ) (lists : ℕ → List ℕ) where
   second_apart : (x : ℕ) → Apart (lists (x % m)) → Apart (by_second m n lists x)
   second_apart x h = apart_map (λ v. x / m * n + v) (lists (x % m)) (λ v w _ _ k. omega arith) h
 
-  second_within : (t x y : ℕ) → x / m < t → ((v : ℕ) → has (lists (x % m)) v ≡ true → v < n) → has (by_second m n lists x) y ≡ true → y < t * n
+  pub second_within : (t x y : ℕ) → x / m < t → ((v : ℕ) → has (lists (x % m)) v ≡ true → v < n) → has (by_second m n lists x) y ≡ true → y < t * n
   second_within t x y hx within h =
       let from = has_map_from (λ v. x / m * n + v) (lists (x % m)) y h in
       let b = mul-add-lt (x / m) n from.0 t hx (within from.0 from.1) in
       omega (arith, b, from.2)
 
-  second_few : (most x : ℕ) → length (lists (x % m)) ≤ most → length (by_second m n lists x) ≤ most
+  pub second_few : (most x : ℕ) → length (lists (x % m)) ≤ most → length (by_second m n lists x) ≤ most
   second_few most x h = subst (λ k. k ≤ most) (sym (length-map (lists (x % m)) (λ v. x / m * n + v))) h
 
 pub second_paired : {most m n : ℕ} {of_row of_column : ℕ → List ℕ} (t : ℕ) → 0 < m → 0 < n → Paired most m n of_row of_column → Paired most (t * m) (t * n) (by_second m n of_row) (by_second n m of_column)

@@ -1,7 +1,5 @@
 -- Numbers for pairs: (a, b), with b below w, is a * w + b. Relations on pairs, from a relation on one part. Assumes nothing.
-use Rattle.std.specs.Prelude.{◌≡◌, ℕ, ◌+◌, ◌-◌, ◌*◌, ◌/◌, ◌%◌, ◌<◌, true, cond, List, ◌++◌, map, nat_lt}
-use Rattle.patterns.specs.Sets.{has}
-use Rattle.graphs.specs.Tanners.{most_nodes}
+use Rattle.std.specs.Prelude.{ℕ, ◌+◌, ◌-◌, ◌*◌, ◌/◌, ◌%◌, cond, List, ◌++◌, map, nat_lt}
 
 -- the pairs (v, b) for each v that is joined to a, where x is (a, b) under w
 abbrev pub by_first : ℕ → (ℕ → List ℕ) → ℕ → List ℕ
@@ -18,7 +16,3 @@ two_blocks n one two u = one u ++ map (λ v. n + v) (two u)
 -- columns in two blocks, the first of n columns
 abbrev pub in_block : ℕ → (ℕ → List ℕ) → (ℕ → List ℕ) → ℕ → List ℕ
 in_block n one two v = cond (nat_lt v n) (one v) (two (v - n))
-
--- the neighbours of each of m nodes are nodes of a graph
-abbrev pub Bounded : ℕ → (ℕ → List ℕ) → Type 0
-Bounded m lists = (u v : ℕ) → u < m → has (lists u) v ≡ true → v < most_nodes

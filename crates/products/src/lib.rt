@@ -1,6 +1,8 @@
 // Product codes.
 #![tactic(auto)]
 
+mod blocks;
 mod pairs;
 pub mod product;
 mod sides;
+mod steps;

@@ -3,9 +3,10 @@ ghost use Rattle.std.specs.Prelude.{◌≡◌};
 ghost use Rattle.products.specs.Products.{product_of, BlockRows};
 ghost use Rattle.products.specs.Evens.{sound_product};
 
-use crate::pairs;
+use crate::pairs::Pairs;
 use codes::code::{Check, Code, Generator, Qubit};
 use graphs::graph::Graph;
+use matrices::families::Family;
 
 const PRODUCT_LETTER: u8 = b'P';
 
@@ -41,50 +42,54 @@ impl<G: Graph> Code for Product<G> {
     }
 
     fn qubits(&self) -> u32 {
-        pairs::qubits(&self.graph, &self.graph)
+        Pairs(&self.graph, &self.graph).by_check().count()
     }
 
     fn checks(&self) -> u32 {
-        pairs::checks(&self.graph, &self.graph)
+        Pairs(&self.graph, &self.graph).of_check().count()
     }
 
     fn generators(&self) -> u32 {
-        pairs::generators(&self.graph, &self.graph)
+        Pairs(&self.graph, &self.graph).of_generator().count()
     }
 
     fn check_size(&self, u: Check) -> Option<u32> {
-        pairs::check_size(&self.graph, &self.graph, u.0)
+        Pairs(&self.graph, &self.graph).of_check().size(u.0)
     }
 
     fn generator_size(&self, g: Generator) -> Option<u32> {
-        pairs::generator_size(&self.graph, &self.graph, g.0)
+        Pairs(&self.graph, &self.graph).of_generator().size(g.0)
     }
 
     fn checks_of(&self, v: Qubit) -> Option<u32> {
-        pairs::checks_of(&self.graph, &self.graph, v.0)
+        Pairs(&self.graph, &self.graph).by_check().size(v.0)
     }
 
     fn generators_of(&self, v: Qubit) -> Option<u32> {
-        pairs::generators_of(&self.graph, &self.graph, v.0)
+        Pairs(&self.graph, &self.graph).by_generator().size(v.0)
     }
 
     fn check_qubit(&self, u: Check, k: u32) -> Option<Qubit> {
-        let v = pairs::check_qubit(&self.graph, &self.graph, u.0, k)?;
+        let checks = Pairs(&self.graph, &self.graph).of_check();
+        let v = checks.neighbour(u.0, k)?;
         Some(Qubit(v))
     }
 
     fn generator_qubit(&self, g: Generator, k: u32) -> Option<Qubit> {
-        let v = pairs::generator_qubit(&self.graph, &self.graph, g.0, k)?;
+        let generators = Pairs(&self.graph, &self.graph).of_generator();
+        let v = generators.neighbour(g.0, k)?;
         Some(Qubit(v))
     }
 
     fn qubit_check(&self, v: Qubit, k: u32) -> Option<Check> {
-        let u = pairs::qubit_check(&self.graph, &self.graph, v.0, k)?;
+        let qubits = Pairs(&self.graph, &self.graph).by_check();
+        let u = qubits.neighbour(v.0, k)?;
         Some(Check(u))
     }
 
     fn qubit_generator(&self, v: Qubit, k: u32) -> Option<Generator> {
-        let g = pairs::qubit_generator(&self.graph, &self.graph, v.0, k)?;
+        let qubits = Pairs(&self.graph, &self.graph).by_generator();
+        let g = qubits.neighbour(v.0, k)?;
         Some(Generator(g))
     }
 }

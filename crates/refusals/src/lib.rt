@@ -6,28 +6,46 @@ ghost use Rattle.refusals.specs.Questions.{number};
 ghost use Rattle.refusals.specs.declared.Refusal.TheVariants.{OutOfMemory};
 
 use std::alloc::{AllocError, AllocFailed};
-use std::fmt;
+use thiserror::Error;
 
-#[derive(Clone, Copy, PartialEq, Eq, Debug)]
+#[derive(Clone, Copy, PartialEq, Eq, Debug, Error)]
 pub enum Refusal {
-    HeadCutShort,
-    WrongMark,
-    WrongVersion,
-    CountOutOfRange,
-    WrongLength,
-    UnusedBitSet,
-    DegreeOutOfRange,
-    ShiftsNotRising,
-    OddOverlap,
-    UnknownSide,
-    WrongPatternLength,
-    NumberOutOfRange,
-    NotDangling,
-    NotInGenerator,
-    NotAllOpen,
-    NoSetLowers,
-    OutputTooShort,
-    OutOfMemory,
+    #[error("the head is cut short")]
+    HeadCutShort = 1,
+    #[error("the mark is wrong")]
+    WrongMark = 2,
+    #[error("the version is not 1")]
+    WrongVersion = 3,
+    #[error("a count is out of its range")]
+    CountOutOfRange = 4,
+    #[error("the length is not what the counts require")]
+    WrongLength = 5,
+    #[error("an unused bit is set")]
+    UnusedBitSet = 6,
+    #[error("a degree or a weight is out of its range")]
+    DegreeOutOfRange = 7,
+    #[error("the shifts do not rise strictly below the count")]
+    ShiftsNotRising = 8,
+    #[error("a check and a generator share an odd number of qubits")]
+    OddOverlap = 9,
+    #[error("the side is neither 0 nor 1")]
+    UnknownSide = 10,
+    #[error("a handed pattern has not its length")]
+    WrongPatternLength = 11,
+    #[error("a number is not below its count")]
+    NumberOutOfRange = 12,
+    #[error("the check is not dangling")]
+    NotDangling = 13,
+    #[error("the qubit is not in the generator")]
+    NotInGenerator = 14,
+    #[error("a qubit of the generator is not open")]
+    NotAllOpen = 15,
+    #[error("no set lowers the weight")]
+    NoSetLowers = 16,
+    #[error("the output is too short")]
+    OutputTooShort = 17,
+    #[error("there is no memory left")]
+    OutOfMemory = 0,
 }
 
 impl Refusal {
@@ -35,53 +53,11 @@ impl Refusal {
     pub fn number(self) -> u8
         ensures { result ≡ number self }
     {
-        match self {
-            Refusal::OutOfMemory => 0,
-            Refusal::HeadCutShort => 1,
-            Refusal::WrongMark => 2,
-            Refusal::WrongVersion => 3,
-            Refusal::CountOutOfRange => 4,
-            Refusal::WrongLength => 5,
-            Refusal::UnusedBitSet => 6,
-            Refusal::DegreeOutOfRange => 7,
-            Refusal::ShiftsNotRising => 8,
-            Refusal::OddOverlap => 9,
-            Refusal::UnknownSide => 10,
-            Refusal::WrongPatternLength => 11,
-            Refusal::NumberOutOfRange => 12,
-            Refusal::NotDangling => 13,
-            Refusal::NotInGenerator => 14,
-            Refusal::NotAllOpen => 15,
-            Refusal::NoSetLowers => 16,
-            Refusal::OutputTooShort => 17,
-        }
-    }
-
-    // What is wrong, in words for whoever has to mend the input.
-    fn words(self) -> &'static str {
-        match self {
-            Refusal::HeadCutShort => "the head is cut short",
-            Refusal::WrongMark => "the mark is wrong",
-            Refusal::WrongVersion => "the version is not 1",
-            Refusal::CountOutOfRange => "a count is out of its range",
-            Refusal::WrongLength => "the length is not what the counts require",
-            Refusal::UnusedBitSet => "an unused bit is set",
-            Refusal::DegreeOutOfRange => "a degree or a weight is out of its range",
-            Refusal::ShiftsNotRising => "the shifts do not rise strictly below the count",
-            Refusal::OddOverlap => "a check and a generator share an odd number of qubits",
-            Refusal::UnknownSide => "the side is neither 0 nor 1",
-            Refusal::WrongPatternLength => "a handed pattern has not its length",
-            Refusal::NumberOutOfRange => "a number is not below its count",
-            Refusal::NotDangling => "the check is not dangling",
-            Refusal::NotInGenerator => "the qubit is not in the generator",
-            Refusal::NotAllOpen => "a qubit of the generator is not open",
-            Refusal::NoSetLowers => "no set lowers the weight",
-            Refusal::OutputTooShort => "the output is too short",
-            Refusal::OutOfMemory => "there is no memory left",
-        }
+        self as u8
     }
 }
 
+// Both by hand: what a derive writes says nothing of the case that it makes, and no one impl is for both types.
 impl From<AllocError> for Refusal {
     ghost from_gives = { λ _ r. r ≡ OutOfMemory };
 
@@ -95,11 +71,5 @@ impl<T: Drop> From<AllocFailed<T>> for Refusal {
 
     fn from(_e: AllocFailed<T>) -> Refusal {
         Refusal::OutOfMemory
-    }
-}
-
-impl fmt::Display for Refusal {
-    fn fmt<W: fmt::Write>(&self, f: &mut fmt::Formatter<W>) -> fmt::Result {
-        f.write_str(self.words())
     }
 }

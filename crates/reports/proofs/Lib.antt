@@ -1,4 +1,3 @@
-mod Placed
-mod Figures
+mod Filled
 mod Lines
 mod ReadBack

@@ -1,5 +1,7 @@
--- Lines of words and values, and a text that is put at a place among bytes. Assumes nothing.
-use Rattle.std.specs.Prelude.{◌≡◌, ℕ, ◌+◌, List, [], ◌∷◌, ◌++◌, length, take, drop}
+-- Lines of words and values. Assumes nothing.
+use Rattle.std.specs.Prelude.{ℕ, ◌+◌, ◌*◌, List, [], ◌∷◌, ◌++◌, length}
+use Rattle.patterns.specs.Hex.{hexed}
+use Rattle.reports.specs.declared.pieces.PatternLine.{PatternLine}
 
 -- values, each after a space, and the end of the line
 abbrev pub spaced : List (List ℕ) → List ℕ
@@ -10,8 +12,9 @@ spaced (v ∷ vs) = 32 ∷ (v ++ spaced vs)
 abbrev pub line : List ℕ → List (List ℕ) → List ℕ
 line word values = word ++ spaced values
 
--- a text was put at a place and ends before another: what stands before the one and from the other on stays
-pub record Put (old new : List ℕ) (at end : ℕ) (text : List ℕ) : Type 0 where
-  pub place : end ≡ at + length text
-  pub front : take end new ≡ take at old ++ text
-  pub rest : drop end new ≡ drop end old
+-- the line of a word, which ends with a space, and of the bytes of a pattern: how many bytes it has, and which
+abbrev pub line_size : PatternLine → ℕ
+line_size p = length p.word.now + (2 * length p.bytes.now + 1)
+
+abbrev pub line_text : PatternLine → List ℕ
+line_text p = p.word.now ++ (hexed p.bytes.now ++ (10 ∷ []))

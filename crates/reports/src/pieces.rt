@@ -1,71 +1,74 @@
-// Pieces of text. Each call puts its text among the bytes of `out` from `at` on, and answers the place after it.
-ghost use Rattle.std.specs.Prelude.{◌≡◌, ◌+◌, ◌*◌, ◌<◌, ◌≤◌, [], ◌∷◌, ◌++◌, length, drop, decimal};
-ghost use Rattle.patterns.specs.Hex.{hexed};
-ghost use Rattle.reports.specs.Texts.{spaced, line, Put};
+// Pieces of text: what is put after what short lines hold, and the line of a pattern.
+ghost use Rattle.std.specs.Prelude.{◌≡◌, ◌+◌, ◌^◌, ◌<◌, ◌≤◌, [], ◌∷◌, ◌++◌, length, decimal};
+ghost use Rattle.arrayvec.specs.ArrayVec.{array_vec_len};
+ghost use Rattle.reports.specs.Texts.{spaced, line_size, line_text};
 
+use arrayvec::ArrayVec;
+use itoa::Buffer;
 use patterns::hex::write_hex;
 
-// The most digits that a count of 32 bits has.
-const MOST_DIGITS: usize = 10;
-
-pub(crate) fn put(text: &[u8], out: &mut [u8], at: usize) -> usize
-    requires { at + length text.now ≤ length out.old }
-    ensures { Put out.old out.new at result text.now }
+// The text, for which there is room.
+pub(crate) fn put<const N: usize>(text: &str, lines: &mut ArrayVec<u8, N>)
+    requires { array_vec_len lines.old + length text.now ≤ N }
+    ensures { lines.new.items ≡ lines.old.items ++ text.now }
 {
-    let end = at + text.len();
-    out[at..end].copy_from_slice(text);
-    end
-}
-
-// Writes the digits of the count at the end of `digits`; answers where they begin.
-fn write_digits(count: u32, digits: &mut [u8]) -> usize
-    requires { length digits.old ≡ 10 }
-    ensures bound { result < 10 }
-    ensures after { drop result digits.new ≡ decimal count }
-{
-    let mut rest = count;
-    let mut at = MOST_DIGITS - 1;
-    while rest >= 10 {
-        digits[at] = b'0' + (rest % 10) as u8;
-        rest /= 10;
-        at -= 1;
-    }
-    digits[at] = b'0' + rest as u8;
-    at
+    let _fits = lines.try_extend_from_slice(text.as_bytes());
 }
 
 // A space and the count in decimal.
-pub(crate) fn put_count(count: u32, out: &mut [u8], at: usize) -> usize
-    requires { at + 11 ≤ length out.old }
-    ensures after { Put out.old out.new at result (32 ∷ decimal count) }
-    ensures bound { result ≤ at + 11 }
+pub(crate) fn put_count<const N: usize>(count: u32, lines: &mut ArrayVec<u8, N>)
+    requires { array_vec_len lines.old + 11 ≤ N }
+    ensures text { lines.new.items ≡ lines.old.items ++ (32 ∷ decimal count) }
+    ensures bound { array_vec_len lines.new ≤ array_vec_len lines.old + 11 }
 {
-    let mut digits = [0; MOST_DIGITS];
-    let from = write_digits(count, &mut digits);
-    let at = put(b" ", out, at);
-    put(&digits[from..], out, at)
+    let mut digits = Buffer::new();
+    lines.push(b' ');
+    put(digits.format(count), lines);
 }
 
 // Three counts, and the end of the line.
-pub(crate) fn put_counts(first: u32, second: u32, third: u32, out: &mut [u8], at: usize) -> usize
-    requires { at + 34 ≤ length out.old }
-    ensures after { Put out.old out.new at result (spaced (decimal first ∷ decimal second ∷ decimal third ∷ [])) }
-    ensures bound { result ≤ at + 34 }
+pub(crate) fn put_counts<const N: usize>(
+    first: u32,
+    second: u32,
+    third: u32,
+    lines: &mut ArrayVec<u8, N>,
+)
+    requires { array_vec_len lines.old + 34 ≤ N }
+    ensures text { lines.new.items ≡ lines.old.items ++ spaced (decimal first ∷ decimal second ∷ decimal third ∷ []) }
+    ensures bound { array_vec_len lines.new ≤ array_vec_len lines.old + 34 }
 {
-    let at = put_count(first, out, at);
-    let at = put_count(second, out, at);
-    let at = put_count(third, out, at);
-    put(b"\n", out, at)
+    put_count(first, lines);
+    put_count(second, lines);
+    put_count(third, lines);
+    lines.push(b'\n');
 }
 
-// A line with the bytes of a pattern.
-pub(crate) fn put_pattern(word: &[u8], bytes: &[u8], out: &mut [u8], at: usize) -> usize
-    requires { at + (length word.now + (2 * length bytes.now + 2)) ≤ length out.old }
-    ensures { Put out.old out.new at result (line word.now (hexed bytes.now ∷ [])) }
-{
-    let at = put(word, out, at);
-    let at = put(b" ", out, at);
-    let end = at + 2 * bytes.len();
-    let _ = write_hex(bytes, &mut out[at..end]);
-    put(b"\n", out, end)
+// A line of a word, which ends with a space, and the bytes of a pattern.
+#[derive(Clone, Copy)]
+pub(crate) struct PatternLine<'a> {
+    pub(crate) word: &'a str,
+    pub(crate) bytes: &'a [u8],
+}
+
+impl<'a> PatternLine<'a> {
+    // How many bytes the line has.
+    pub(crate) fn size(self) -> usize
+        requires word_len_bound { length self.word.now < 2 ^ 32 }
+        requires bytes_len_bound { length self.bytes.now < 2 ^ 32 }
+        ensures { result ≡ line_size self.entry }
+    {
+        self.word.len() + (2 * self.bytes.len() + 1)
+    }
+
+    // Writes the line, for which `out` has just the room.
+    pub(crate) fn write(self, out: &mut [u8])
+        requires { length out.old ≡ line_size self }
+        ensures { out.new ≡ line_text self.entry }
+    {
+        let (start, rest) = out.split_at_mut(self.word.len());
+        start.copy_from_slice(self.word.as_bytes());
+        let (digits, end) = rest.split_at_mut(2 * self.bytes.len());
+        let _ = write_hex(self.bytes, digits);
+        end.copy_from_slice(b"\n");
+    }
 }

@@ -1,21 +1,19 @@
 // The writer of reports.
-ghost use Rattle.std.specs.Prelude.{◌≡◌, ◌^◌, ◌<◌, ◌≤◌, length};
+ghost use Rattle.std.specs.Prelude.{◌≡◌, ◌+◌, ◌^◌, ◌<◌, ◌++◌, length};
 ghost use Rattle.refusals.specs.Questions.{first_no, answer};
 ghost use Rattle.refusals.specs.Outputs.{answered, written};
-ghost use Rattle.reports.specs.Texts.{Put};
+ghost use Rattle.reports.specs.Texts.{line_size, line_text};
 ghost use Rattle.reports.specs.Reports.{told, short_lines, report_of, report_questions, report_answer, report_output, ReportDetermines};
 
-use crate::pieces::{put, put_counts, put_pattern};
+use crate::pieces::{PatternLine, put, put_counts};
 use crate::report::Report;
+use arrayvec::ArrayVec;
 use codes::code::Code;
 use patterns::shapes::{fits, unused_are_zero};
 use refusals::Refusal;
 
 // The lines of counts and words are shorter than this.
 const MOST_SHORT: usize = 128;
-
-// The words `fix` and `open`, and a space and an end of line for each.
-const AROUND_PATTERNS: usize = 11;
 
 // Asks both patterns for their length and for their unused bits.
 fn ask<C: Code>(code: &C, report: Report<'_>) -> Result<(), Refusal>
@@ -31,18 +29,33 @@ fn ask<C: Code>(code: &C, report: Report<'_>) -> Result<(), Refusal>
     Ok(())
 }
 
-// The lines `code`, `verdict` and `moves`, from the front of `out` on; answers where they end.
-fn put_short_lines<C: Code>(code: &C, report: Report<'_>, out: &mut [u8]) -> usize
-    requires { length out.old ≡ 128 }
-    ensures after { Put out.old out.new 0 result (short_lines (told C.symbol (C.layout code.now) report.entry)) }
-    ensures bound { result ≤ 128 }
+// The lines `code`, `verdict` and `moves`.
+fn short_lines<C: Code>(code: &C, report: Report<'_>) -> ArrayVec<u8, MOST_SHORT>
+    ensures { result.items ≡ short_lines (told C.symbol (C.layout code.now) report.entry) }
 {
-    let at = put(&[b'c', b'o', b'd', b'e', b' ', code.kind_letter()], out, 0);
-    let at = put_counts(code.qubits(), code.checks(), code.generators(), out, at);
-    let at = put(b"verdict ", out, at);
-    let at = put(report.verdict.word(), out, at);
-    let at = put(b"\nmoves", out, at);
-    put_counts(report.peels, report.prunes, report.flips, out, at)
+    let mut lines = ArrayVec::new();
+    put("code ", &mut lines);
+    lines.push(code.kind_letter());
+    put_counts(code.qubits(), code.checks(), code.generators(), &mut lines);
+    put("verdict ", &mut lines);
+    put(report.verdict.word(), &mut lines);
+    put("\nmoves", &mut lines);
+    put_counts(report.peels, report.prunes, report.flips, &mut lines);
+    lines
+}
+
+// Writes the short lines and those of two patterns, for which `out` has just the room.
+fn fill(short: &[u8], fix: PatternLine<'_>, opened: PatternLine<'_>, out: &mut [u8])
+    requires out_len { length out.old ≡ length short.now + (line_size fix + line_size opened) }
+    requires fix_len_bound { length fix.bytes.now < 2 ^ 32 }
+    requires word_len_bound { length fix.word.now < 2 ^ 32 }
+    ensures { out.new ≡ short.now ++ (line_text fix.entry ++ line_text opened.entry) }
+{
+    let (front, patterns) = out.split_at_mut(short.len());
+    front.copy_from_slice(short);
+    let (front, rest) = patterns.split_at_mut(fix.size());
+    fix.write(front);
+    opened.write(rest);
 }
 
 // Writes the report of patterns that were asked.
@@ -52,15 +65,21 @@ fn write_lines<C: Code>(code: &C, report: Report<'_>, out: &mut [u8]) -> Result<
     ensures value { result ≡ answered (report_of (told C.symbol (C.layout code.now) report.entry)) out.old }
     ensures after { out.new ≡ written (report_of (told C.symbol (C.layout code.now) report.entry)) out.old }
 {
-    let mut short = [0; MOST_SHORT];
-    let size = put_short_lines(code, report, &mut short);
-    let digits = 2 * (report.correction.len() + report.opened.len());
-    if out.len() < size + AROUND_PATTERNS + digits {
+    let short = short_lines(code, report);
+    let fix = PatternLine {
+        word: "fix ",
+        bytes: report.correction,
+    };
+    let opened = PatternLine {
+        word: "open ",
+        bytes: report.opened,
+    };
+    let size = short.len() + fix.size() + opened.size();
+    if out.len() < size {
         return Err(Refusal::OutputTooShort);
     }
-    let at = put(&short[..size], out, 0);
-    let at = put_pattern(b"fix", report.correction, out, at);
-    Ok(put_pattern(b"open", report.opened, out, at))
+    fill(short.as_slice(), fix, opened, &mut out[..size]);
+    Ok(size)
 }
 
 // Writes the five lines at the front of `out`; answers how many bytes it wrote. Two reports of the same bytes tell the same.

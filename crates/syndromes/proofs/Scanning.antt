@@ -1,42 +1,41 @@
--- The parity of a set over the qubits of a check, one after another. Assumes nothing.
-use Rattle.std.proofs.Common.{◌≡◌, ℕ, ◌+◌, ◌≤◌, Bool, true, false, not, List, length, drop, sym, refl, ap, ◌∙◌}
+-- The parity of a set over the qubits of a check. Assumes nothing.
+use Rattle.std.proofs.Common.{◌≡◌, ℕ, ◌+◌, ◌%◌, ◌<◌, Bool, true, false, cond, not, eqb, ltb, ◌&&◌, zero, suc, List, [], ◌∷◌, length, filter, sym, refl, ap, ◌∙◌, ap₂, arith}
 use mathlib.Core.Bool.{beq}
-use Rattle.std.proofs.lemmas.List.{at_drop_more, at_drop_all}
-use Rattle.patterns.specs.Sets.{Set, ◌⊕◌, parity}
-use Rattle.patterns.proofs.Sums.{plus_zero, plus_assoc}
-use Rattle.matrices.proofs.Lookups.{Found}
+use Rattle.std.proofs.Math.Numerals.{add-one}
+use Rattle.std.proofs.lemmas.Bool.{cond-true, lt-ltb}
+use Rattle.std.proofs.lemmas.Bool.Decides.{nat_tests}
+use Rattle.patterns.specs.Sets.{Set, ◌⊕◌, parity, all_below}
+use Rattle.matrices.specs.Relations.{neighbours}
+use Rattle.codes.specs.Layouts.{Layout}
+use Rattle.syndromes.specs.Syndromes.{syndrome_of}
 
-not_is_plus : (b : Bool) → not b ≡ (b ⊕ true)
-not_is_plus true = refl
-not_is_plus false = refl
+next_odd : (n : ℕ) → eqb ((n + 1) % 2) 1 ≡ not (eqb (n % 2) 1)
+next_odd n = grind (arith, nat_tests)
 
-module _ (s : Set) (row : List ℕ) (k v : ℕ) (odd all : Bool) (found : Found row k v) (before : (odd ⊕ parity s (drop k row)) ≡ all) where
-  step : (odd ⊕ (s v ⊕ parity s (drop (k + 1) row))) ≡ all
-  step = sym (ap (λ b. odd ⊕ b) (at_drop_more (parity s) row k 0 found.here ∙ ap (λ x. s x ⊕ parity s (drop (k + 1) row)) found.is)) ∙ before
+-- an odd number of the list's places hold an item of the set when an odd number pass
+pub odd_parity : (s : Set) (xs : List ℕ) → eqb (length (filter s xs) % 2) 1 ≡ parity s xs
+odd_parity s [] = refl
+odd_parity s (x ∷ xs) = at (s x) (odd_parity s xs)
+  where
+    turned : (p : Bool) → not p ≡ (true ⊕ p)
+    turned true = refl
+    turned false = refl
 
-  pub odd_turned : s v ≡ true → (not odd ⊕ parity s (drop (k + 1) row)) ≡ all
-  odd_turned on =
-      ap (λ b. b ⊕ parity s (drop (k + 1) row)) (not_is_plus odd)
-      ∙ plus_assoc odd true (parity s (drop (k + 1) row))
-      ∙ sym (ap (λ b. odd ⊕ (b ⊕ parity s (drop (k + 1) row))) on)
-      ∙ step
+    at : (b : Bool) → eqb (length (filter s xs) % 2) 1 ≡ parity s xs → eqb (length (cond b (x ∷ filter s xs) (filter s xs)) % 2) 1 ≡ (b ⊕ parity s xs)
+    at true e = ap (λ n. eqb (n % 2) 1) (sym (add-one (length (filter s xs)))) ∙ next_odd (length (filter s xs)) ∙ ap not e ∙ turned (parity s xs)
+    at false e = e
 
-  pub odd_kept : s v ≡ false → (odd ⊕ parity s (drop (k + 1) row)) ≡ all
-  odd_kept off = sym (ap (λ b. odd ⊕ (b ⊕ parity s (drop (k + 1) row))) off) ∙ step
+-- of a check that there is, this is its place in the syndrome
+pub odd_syndrome : (c : Layout) (s : Set) (u : ℕ) → u < c.checks → parity s (neighbours c.checks c.of_check u) ≡ syndrome_of c s u
+odd_syndrome c s u h = ap (parity s) (cond-true (ltb u c.checks) (c.of_check u) [] (lt-ltb u c.checks h))
 
-pub odd_all : (s : Set) (row : List ℕ) (k : ℕ) (odd all : Bool) → length row ≤ k → (odd ⊕ parity s (drop k row)) ≡ all → odd ≡ all
-odd_all s row k odd all h before = sym (ap (λ b. odd ⊕ b) (at_drop_all (parity s) row k h) ∙ plus_zero odd) ∙ before
+-- two answers are equal when not just one is yes
+pub same_not_plus : (a b : Bool) → beq a b ≡ not (a ⊕ b)
+same_not_plus true true = refl
+same_not_plus true false = refl
+same_not_plus false true = refl
+same_not_plus false false = refl
 
--- ---- equal and unequal parities
-
-pub unequal : (a b : Bool) → not (beq a b) ≡ true → not (a ⊕ b) ≡ false
-unequal true true h = sym h
-unequal true false h = refl
-unequal false true h = refl
-unequal false false h = sym h
-
-pub equal : (a b : Bool) → not (beq a b) ≡ false → not (a ⊕ b) ≡ true
-equal true true h = refl
-equal true false h = sym h
-equal false true h = sym h
-equal false false h = refl
+pub all_below_same : (n : ℕ) (s t : Set) → ((u : ℕ) → u < n → s u ≡ t u) → all_below n s ≡ all_below n t
+all_below_same zero s t h = refl
+all_below_same (suc n) s t h = ap₂ ◌&&◌ (all_below_same n s t (λ u l. h u (omega arith))) (h n (omega arith))

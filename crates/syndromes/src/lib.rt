@@ -1,32 +1,26 @@
 // Syndromes over any code.
 #![tactic(auto)]
 
-ghost use Rattle.std.specs.Prelude.{◌≡◌, ◌<◌};
+ghost use Rattle.std.specs.Prelude.{◌≡◌};
 ghost use Rattle.refusals.specs.Questions.{first_no, answer, where_accepted};
+ghost use Rattle.patterns.specs.Sets.{parity};
 ghost use Rattle.patterns.specs.Patterns.{member};
-ghost use Rattle.syndromes.specs.Syndromes.{syndrome_of, syndrome_questions, syndrome_pattern, alike_questions, alike_answer};
+ghost use Rattle.matrices.specs.Relations.{neighbours};
+ghost use Rattle.syndromes.specs.Syndromes.{syndrome_questions, syndrome_pattern, alike_questions, alike_answer};
 
 use codes::code::{Check, Code};
-use codes::limits::MOST_WEIGHT;
+use codes::families::Checks;
+use matrices::families::Neighbours;
 use patterns::items::{contains, toggle};
 use patterns::shapes::{fits, unused_are_zero};
 use refusals::Refusal;
 
-// Whether the check holds an odd number of the set's qubits.
+// Whether the check holds an odd number of the set's qubits; no, where there is no such check.
 fn is_odd<C: Code>(code: &C, u: Check, set: &[u8]) -> bool
-    requires { u.0 < (C.layout code.now).checks }
-    ensures { result ≡ syndrome_of (C.layout code.now) (member set.now) u.0 }
+    ensures { result ≡ parity (member set.now) (neighbours (C.layout code.now).checks (C.layout code.now).of_check u.0) }
 {
-    let mut odd = false;
-    for k in 0..MOST_WEIGHT {
-        let Some(v) = code.check_qubit(u, k) else {
-            break;
-        };
-        if contains(set, v.0) {
-            odd = !odd;
-        }
-    }
-    odd
+    let held = Neighbours::of(Checks { code }, u.0);
+    held.filter(|v| contains(set, *v)).count() % 2 == 1
 }
 
 // Fills `out` with the syndrome of the set.
@@ -59,10 +53,6 @@ pub fn alike<C: Code>(code: &C, one: &[u8], two: &[u8]) -> Result<bool, Refusal>
     if !unused_are_zero(one, code.qubits()) || !unused_are_zero(two, code.qubits()) {
         return Err(Refusal::UnusedBitSet);
     }
-    for u in 0..code.checks() {
-        if is_odd(code, Check(u), one) != is_odd(code, Check(u), two) {
-            return Ok(false);
-        }
-    }
-    Ok(true)
+    let same = |u| is_odd(code, Check(u), one) == is_odd(code, Check(u), two);
+    Ok((0..code.checks()).all(same))
 }

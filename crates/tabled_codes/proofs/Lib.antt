@@ -1,3 +1,3 @@
 pub mod Reading
-pub mod Writing
 pub mod Telling
+pub mod Writing

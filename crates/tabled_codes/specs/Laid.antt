@@ -1,16 +1,16 @@
 -- The code that four tables tell. Assumes nothing.
-use Rattle.std.specs.Prelude.{ℕ, List, length, vec_items}
+use Rattle.std.specs.Prelude.{ℕ, List, length}
 use Rattle.codes.specs.Layouts.{Layout}
 use Rattle.tabled_codes.specs.declared.table.Table.{Table}
-use Rattle.tabled_codes.specs.Rows.{over}
+use Rattle.tabled_codes.specs.Rows.{lists, over}
 
 -- how many nodes a table has
 abbrev pub nodes_of : Table → ℕ
-nodes_of t = length (vec_items t.sizes)
+nodes_of t = length (lists t.nodes)
 
 -- the neighbours of each, and past the last node those of another relation
 abbrev pub rows_over : Table → (ℕ → List ℕ) → ℕ → List ℕ
-rows_over t rest = over (vec_items t.sizes) (vec_items t.places) rest
+rows_over t rest = over (lists t.nodes) rest
 
 -- from the qubits of each check and of each generator, and the checks and the generators of each qubit; of nodes that there are not, what another code tells of them
 abbrev pub laid : Table → Table → Table → Table → Layout → Layout

@@ -1,7 +1,6 @@
 // Codes whose neighbours are written into flat tables.
 #![tactic(auto)]
 
-mod families;
 mod filling;
 mod making;
 mod table;

@@ -1,8 +1,10 @@
 // What is told of a job: where it stands.
 #![tactic(auto)]
 
-ghost use Rattle.std.specs.Prelude.{◌≡◌};
+ghost use Rattle.std.specs.Prelude.{◌≡◌, Some};
 ghost use Rattle.verdicts.specs.Words.{word};
+
+use std::fmt;
 
 #[derive(Clone, Copy, PartialEq, Eq, Debug)]
 pub enum Verdict {
@@ -15,15 +17,23 @@ pub enum Verdict {
 
 impl Verdict {
     // The word that reports print.
-    pub fn word(self) -> &'static [u8]
+    pub fn word(self) -> &'static str
         ensures { result.now ≡ word self }
     {
         match self {
-            Verdict::Contradicted => b"contradicted",
-            Verdict::Settled => b"settled",
-            Verdict::Moving => b"moving",
-            Verdict::Matched => b"matched",
-            Verdict::Stalled => b"stalled",
+            Verdict::Contradicted => "contradicted",
+            Verdict::Settled => "settled",
+            Verdict::Moving => "moving",
+            Verdict::Matched => "matched",
+            Verdict::Stalled => "stalled",
         }
+    }
+}
+
+impl fmt::Display for Verdict {
+    ghost output = { λ v. Some (word v) };
+
+    fn fmt<W: fmt::Write>(&self, f: &mut fmt::Formatter<W>) -> fmt::Result {
+        f.write_str(self.word())
     }
 }

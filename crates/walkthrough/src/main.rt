@@ -5,6 +5,7 @@ use anyhow::Context;
 use codes::code::{Check, Code, Generator, Qubit};
 use graph_files::reading::read_graph;
 use moves::job::Job;
+use moves::peel::Peeled;
 use patterns::items::contains;
 use products::product::Product;
 use std::io;
@@ -20,10 +21,8 @@ const ERASURE: [u8; 2] = *b"\x09\x02";
 
 fn print_items(rt: &HostRuntime, name: &str, bits: &[u8], count: u32) -> io::Result<()> {
     print!(rt; "{name}")?;
-    for k in 0..count {
-        if contains(bits, k) {
-            print!(rt; " {k}")?;
-        }
+    for k in (0..count).filter(|k| contains(bits, *k)) {
+        print!(rt; " {k}")?;
     }
     println!(rt; "")
 }
@@ -35,9 +34,10 @@ fn print_job<C: Code>(rt: &HostRuntime, code: &C, job: &Job) -> io::Result<()> {
 }
 
 fn peel<C: Code>(rt: &HostRuntime, code: &C, job: &mut Job, u: Check) -> anyhow::Result<()> {
-    let (v, changed) = job.peel(code, u).ok().context("the peel was refused")?;
+    let Peeled { qubit, changed } = job.peel(code, u).context("the peel was refused")?;
     let check = u.0;
-    let qubit = v.0;
+    let qubit = qubit.0;
+    let changed = u8::from(changed);
     println!(rt; "peel check {check}: qubit {qubit}, changed {changed}")?;
     print_job(rt, code, job)?;
     Ok(())
@@ -50,7 +50,7 @@ fn prune<C: Code>(
     g: Generator,
     v: Qubit,
 ) -> anyhow::Result<()> {
-    job.prune(code, g, v).ok().context("the prune was refused")?;
+    job.prune(code, g, v).context("the prune was refused")?;
     let generator = g.0;
     let qubit = v.0;
     println!(rt; "prune generator {generator}: qubit {qubit}")?;
@@ -69,7 +69,6 @@ fn decode<C: Code>(rt: &HostRuntime, code: &C) -> anyhow::Result<()> {
         moves: 0,
     };
     job.open(code, &SYNDROME, &ERASURE)
-        .ok()
         .context("the opening was refused")?;
     println!(rt; "open")?;
     print_job(rt, code, &job)?;
@@ -83,7 +82,6 @@ fn decode<C: Code>(rt: &HostRuntime, code: &C) -> anyhow::Result<()> {
 
 fn run(rt: &HostRuntime) -> anyhow::Result<()> {
     let graph = read_graph(rt.alloc(), &GRAPH)
-        .ok()
         .context("the graph was refused")?;
     decode(rt, &Product::of(graph))
 }

@@ -5,6 +5,7 @@ use Rattle.refusals.proofs.Asking.{none_from_yes}
 use Rattle.patterns.specs.Patterns.{width, member, fitting, tidy}
 use Rattle.patterns.proofs.Filled.{filled_none, filled_more, filled_skip, filled_all}
 use Rattle.syndromes.specs.Syndromes.{syndrome_of, syndrome_questions, syndrome_pattern}
+use Rattle.syndromes.proofs.Scanning.{odd_syndrome}
 use Rattle.syndromes.proofs.syndrome.Goals as goal
 use Rattle.syndromes.proofs.syndrome.Goals.{then-is_odd, else-is_odd}
 
@@ -22,8 +23,8 @@ loop-u-preserved g c =
     let s = syndrome_of l (member c.args.set.now) in
     let u = c.loop-u.u in
     elim c.if-is_odd.branch [
-      | then-is_odd w ↦ w.out-is ∙ w.toggle.ensures.after ∙ filled_more l.checks u s c.loop-u.out (omega arith) (sym c.is_odd.ensures ∙ w.if-is_odd.true) c.loop-u.invariant
-      | else-is_odd w ↦ w.out-is ∙ filled_skip l.checks u s c.loop-u.out (sym c.is_odd.ensures ∙ w.if-is_odd.false) c.loop-u.invariant
+      | then-is_odd w ↦ w.out-is ∙ w.toggle.ensures.after ∙ filled_more l.checks u s c.loop-u.out (omega arith) (sym (odd_syndrome l (member c.args.set.now) u (omega arith)) ∙ sym c.is_odd.ensures ∙ w.if-is_odd.true) c.loop-u.invariant
+      | else-is_odd w ↦ w.out-is ∙ filled_skip l.checks u s c.loop-u.out (sym (odd_syndrome l (member c.args.set.now) u (omega arith)) ∙ sym c.is_odd.ensures ∙ w.if-is_odd.false) c.loop-u.invariant
     ]
 
 pub returns : goal.returns

@@ -1,15 +1,14 @@
-use Rattle.std.proofs.Common.{rules}
 use Rattle.decoding.proofs.WellFormed.{well_formed_decode}
 use Rattle.decoding.proofs.jobs_of_codes.decode.Goals as goal
 
-pub returns-in_err-remaining : goal.returns-in_err-remaining
-returns-in_err-remaining g c = record { value = search rules; well_formed = well_formed_decode g.C.Code.symbol (g.C.Code.layout c.args.code.now) (g.met.C.Code.sound c.args.code.now) }
+pub returns-in_err-remaining-clause-well_formed : goal.returns-in_err-remaining-clause-well_formed
+returns-in_err-remaining-clause-well_formed g c = well_formed_decode g.C.Code.symbol (g.C.Code.layout c.args.code.now) (g.met.C.Code.sound c.args.code.now)
 
-pub returns-in_err-opened : goal.returns-in_err-opened
-returns-in_err-opened g c = record { value = search rules; well_formed = well_formed_decode g.C.Code.symbol (g.C.Code.layout c.args.code.now) (g.met.C.Code.sound c.args.code.now) }
+pub returns-in_err-opened-clause-well_formed : goal.returns-in_err-opened-clause-well_formed
+returns-in_err-opened-clause-well_formed g c = well_formed_decode g.C.Code.symbol (g.C.Code.layout c.args.code.now) (g.met.C.Code.sound c.args.code.now)
 
-pub returns-in_err-correction : goal.returns-in_err-correction
-returns-in_err-correction g c = record { value = search rules; well_formed = well_formed_decode g.C.Code.symbol (g.C.Code.layout c.args.code.now) (g.met.C.Code.sound c.args.code.now) }
+pub returns-in_err-correction-clause-well_formed : goal.returns-in_err-correction-clause-well_formed
+returns-in_err-correction-clause-well_formed g c = well_formed_decode g.C.Code.symbol (g.C.Code.layout c.args.code.now) (g.met.C.Code.sound c.args.code.now)
 
-pub returns : goal.returns
-returns g c = record { value = search rules; well_formed = well_formed_decode g.C.Code.symbol (g.C.Code.layout c.args.code.now) (g.met.C.Code.sound c.args.code.now) }
+pub returns-clause-well_formed : goal.returns-clause-well_formed
+returns-clause-well_formed g c = well_formed_decode g.C.Code.symbol (g.C.Code.layout c.args.code.now) (g.met.C.Code.sound c.args.code.now)

@@ -8,5 +8,5 @@ pub returns-in-Ok : goal.returns-in-Ok
 returns-in-Ok c =
     let file = c.args.file.now in
     let out = c.args.out.now in
-    let value : UnlessNoMemory c.decode_side.result out c.decode_side.new.out (file_answer file out) (file_output file out) = search rules in
-    record { value = value; bound = file_within file out c.decode_side.new.out c.decode_side.result value }
+    let value : UnlessNoMemory c.decode_job.result out c.decode_job.new.out (file_answer file out) (file_output file out) = search rules in
+    record { value = value; bound = file_within file out c.decode_job.new.out c.decode_job.result value }

@@ -1,8 +1,14 @@
-use Rattle.std.proofs.Common.{◌≡◌, ◌+◌, ◌≤◌, length, take, drop}
+use Rattle.std.proofs.Common.{◌≡◌, ◌+◌, ◌≤◌, length, drop}
+use Rattle.matrices.specs.Relations.{neighbours}
 use Rattle.flips.specs.Local.{gathered}
 use Rattle.flips.proofs.gathering.gather.Given as goal
 
-abbrev pub invariant-loop-k : goal.invariant-loop-k
-invariant-loop-k g l =
-    let row = (g.C.Code.layout l.code).checks_of l.v.0 in
-    (length l.checks ≡ 144) × (l.n ≤ l.count + l.k) × (gathered (take l.n l.checks) (drop l.k row) ≡ gathered (take l.count l.initial.checks) row)
+abbrev pub invariant-loop-u : goal.invariant-loop-u
+invariant-loop-u g l =
+    let it = l.u-iterator in
+    let c = g.C.Code.layout it.family.code.now in
+    let rest = drop it.next (neighbours c.qubits c.checks_of it.node) in
+    record {
+      few : length l.checks.items + length rest ≤ length l.fn.checks.items + 12;
+      is : gathered l.checks.items rest ≡ gathered l.fn.checks.items ((g.C.Code.layout l.fn.code).checks_of l.fn.v.0);
+    }

@@ -1,53 +1,45 @@
-use Rattle.std.proofs.Common.{ℕ, ◌+◌, false, eqb, List, take, sym, refl, ap, ◌∙◌, subst, arith, take_all}
-use Rattle.std.proofs.lemmas.Bool.{ne_eqb, both_ways}
-use Rattle.patterns.proofs.Sums.{plus_zero}
-use Rattle.patterns.specs.Sets.{has, ◌⊕◌}
-use Rattle.matrices.proofs.Lookups.{Found, found_at, ended_at}
-use Rattle.flips.specs.Local.{Marks, marked}
-use Rattle.flips.proofs.Marked.{marks_same, marks_none, marks_toggled}
-use Rattle.flips.proofs.Gathered.{has_next}
+use Rattle.std.proofs.Common.{ltb, eqb, [], ◌∷◌, get_or, drop, sym, ap, ◌∙◌, subst}
+use Rattle.std.proofs.lemmas.Bool.{cond-true, lt-ltb, eqb-true}
+use Rattle.std.proofs.lemmas.List.Quantifiers.{position-Some}
+use Rattle.patterns.specs.Sets.{◌⊕◌, has, Apart}
+use Rattle.matrices.specs.Relations.{neighbours}
+use Rattle.flips.specs.Local.{Marks}
+use Rattle.flips.proofs.Marked.{none_looked_at, next_marked, next_passed, no_place}
 use Rattle.flips.proofs.marks.row.Goals as goal
-use Rattle.flips.proofs.marks.row.Goals.{In-Some, in-Some-place, in_default-place}
-use Rattle.flips.proofs.marks.row.Given.{Over}
 
-seen : (g : Over) (c : In-Some g) → Found ((g.C.Code.layout c.args.code.now).checks_of c.args.v.0) c.loop-k.k c.in-Some.u.0
-seen g c = found_at (g.C.Code.layout c.args.code.now).qubits (g.C.Code.layout c.args.code.now).checks_of c.args.v.0 c.loop-k.k c.requires.v_bound c.in-Some.u.0 c.in-Some.ensures
-
-pub loop-k-init : goal.loop-k-init
-loop-k-init g c = marks_none c.args.checks.now (λ u. false) (λ u h. refl)
-
-pub loop-k-preserved : goal.loop-k-preserved
-loop-k-preserved g c =
+pub loop-u-init : goal.loop-u-init
+loop-u-init g c =
     let l = g.C.Code.layout c.args.code.now in
-    let row = l.checks_of c.args.v.0 in
+    let v = c.args.v.0 in
     let ds = c.args.checks.now in
-    let k = c.loop-k.k in
-    let u = c.in-Some.u.0 in
-    let s = seen g (goal.at.loop-k-preserved g c).In-Some in
-    let apart = (g.met.C.Code.sound c.args.code.now).by_check.column_apart c.args.v.0 c.requires.v_bound in
-    let p = has (take k row) in
-    let M : List ℕ → Type 0 = Marks ds (has (take (k + 1) row)) in
-    elim c.match-place.branch [
-      | in-Some-place w ↦
-          let at = w.in-Some-place.ensures in
-          subst M (sym (w.words-is ∙ w.mark.ensures))
-          (marks_same ds (λ x. p x ⊕ eqb u x) (has (take (k + 1) row)) (marked c.loop-k.words w.in-Some-place.j) (λ x h. sym (has_next row k u x apart s.here s.is))
-          (marks_toggled ds p c.loop-k.words w.in-Some-place.j u c.requires.apart c.requires.checks_len_bound at.0 at.1 c.loop-k.invariant))
-      | in_default-place w ↦
-          subst M (sym w.words-is)
-          (marks_same ds p (has (take (k + 1) row)) c.loop-k.words
-          (λ x h. sym (has_next row k u x apart s.here s.is ∙ ap (λ b. p x ⊕ b) (ne_eqb u x (λ e. both_ways (has ds x) (ap (has ds) (sym e) ∙ w.in_default-place.ensures) h)) ∙ plus_zero (p x)))
-          c.loop-k.invariant)
-    ]
+    let row = l.checks_of v in
+    let whole = ap (λ it. drop it.next (neighbours (g.C.Code.layout it.family.code.now).qubits (g.C.Code.layout it.family.code.now).checks_of it.node)) (c.into_iter-u-iterator.ensures.into_iter_gives ∙ c.of-u-items.ensures)
+    ∙ cond-true (ltb v l.qubits) row [] (lt-ltb v l.qubits c.requires.v_bound) in
+    record {
+      apart = subst Apart (sym whole) ((g.met.C.Code.sound c.args.code.now).by_check.column_apart v c.requires.v_bound);
+      marks = subst (λ us. Marks ds (λ w. has row w ⊕ has us w) (0 ∷ 0 ∷ 0 ∷ [])) (sym whole) (none_looked_at ds row);
+    }
 
-pub returns-after-loop-k : goal.returns-after-loop-k
-returns-after-loop-k g c =
+pub loop-u-preserved-in-Some-place : goal.loop-u-preserved-in-Some-place
+loop-u-preserved-in-Some-place g c =
+    let e = c.in-Some.ensures.steps in
     let row = (g.C.Code.layout c.args.code.now).checks_of c.args.v.0 in
-    let end = (g.met.C.Code.sound c.args.code.now).by_check.column_few c.args.v.0 c.requires.v_bound in
-    subst (λ l. Marks c.args.checks.now (has l) c.loop-k.words) (take_all c.loop-k.k row (omega (arith, end))) c.loop-k.invariant
+    let ds = c.args.checks.now in
+    let u = c.in-Some.u in
+    let here = position-Some (λ x. eqb x u) ds c.in-Some-place.j 0 (sym c.in-Some-place.ensures) in
+    let apart = subst Apart e c.loop-u.invariant.apart in
+    record {
+      apart = apart.1;
+      marks = subst (Marks ds (λ w. has row w ⊕ has _ w)) (sym c.mark.ensures) (next_marked ds row _ c.loop-u.words c.in-Some-place.j u c.requires.apart c.requires.checks_len_bound apart here.0 (eqb-true (get_or ds c.in-Some-place.j 0) u here.1) (subst (λ us. Marks ds (λ w. has row w ⊕ has us w) c.loop-u.words) e c.loop-u.invariant.marks));
+    }
 
-pub returns-in_default : goal.returns-in_default
-returns-in_default g c =
-    let l = g.C.Code.layout c.args.code.now in
-    let end = ended_at l.qubits l.checks_of c.args.v.0 c.loop-k.k c.requires.v_bound c.in_default.ensures in
-    subst (λ l. Marks c.args.checks.now (has l) c.loop-k.words) (take_all c.loop-k.k (l.checks_of c.args.v.0) end) c.loop-k.invariant
+pub loop-u-preserved : goal.loop-u-preserved
+loop-u-preserved g c =
+    let e = c.in-Some.ensures.steps in
+    let row = (g.C.Code.layout c.args.code.now).checks_of c.args.v.0 in
+    let ds = c.args.checks.now in
+    let apart = subst Apart e c.loop-u.invariant.apart in
+    record {
+      apart = apart.1;
+      marks = next_passed ds row _ c.loop-u.words c.in-Some.u apart (no_place ds c.in-Some.u (sym c.in_default.ensures)) (subst (λ us. Marks ds (λ w. has row w ⊕ has us w) c.loop-u.words) e c.loop-u.invariant.marks);
+    }

@@ -1,4 +1,4 @@
-use Rattle.std.proofs.Common.{◌<◌, sym, refl, subst, arith}
+use Rattle.std.proofs.Common.{◌<◌, sym, subst, arith}
 use Rattle.moves.specs.Jobs.{Model}
 use Rattle.moves.specs.Held.{model}
 use Rattle.jobs.specs.declared.counting.Counts.{Counts}
@@ -6,13 +6,9 @@ use Rattle.jobs.specs.declared.closing.Cursors.{Cursors}
 use Rattle.jobs.specs.Runs.{enough}
 use Rattle.jobs.specs.Closings.{as_move, Passed, cursors_after}
 use Rattle.jobs.specs.Progress.{with_move, none_yet, Came}
-use Rattle.jobs.proofs.Running.{begins, falls, goes_on, few_moves}
+use Rattle.jobs.proofs.Running.{falls, goes_on, few_moves}
 use Rattle.jobs.proofs.Closed.{step_next, step_shuts, step_passed}
 use Rattle.jobs.proofs.closing.close_all.Goals as goal
-
-pub loop-step-init : goal.loop-step-init
-loop-step-init g c =
-    (begins (g.C.Code.layout c.args.code.now) (g.met.C.Code.sound c.args.code.now) none_yet (model c.args.job.now) c.requires, record { peeled = refl; pruned = refl })
 
 pub loop-step-smaller : goal.loop-step-smaller
 loop-step-smaller g c =
@@ -51,6 +47,3 @@ loop-step-preserved g c =
       subst (λ (n : Counts). Came l none_yet start n x) (sym c.with-counts.ensures) made.0,
       subst (λ (at : Cursors). Passed l x at) (sym c.after-from.ensures) made.1,
     )
-
-pub returns-in_default : goal.returns-in_default
-returns-in_default g c = record { came = c.loop-step.invariant.0; closed = c.in_default.ensures }

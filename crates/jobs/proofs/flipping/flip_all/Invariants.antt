@@ -6,7 +6,7 @@ use Rattle.jobs.proofs.flipping.flip_all.Given as goal
 
 abbrev pub invariant-loop-g : goal.invariant-loop-g
 invariant-loop-g g l =
-    Came (g.C.Code.layout l.code) l.counts (model l.initial.job) (record { peels = l.counts.peels; prunes = l.counts.prunes; flips = l.flips }) (model l.job)
+    Came (g.C.Code.layout l.code) l.initial.counts (model l.initial.job) l.counts (model l.job)
     × NothingCloses (g.C.Code.layout l.code) (model l.job)
 
 abbrev pub decreases-loop-g : goal.decreases-loop-g

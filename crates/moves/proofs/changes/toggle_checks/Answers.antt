@@ -1,36 +1,25 @@
-use Rattle.std.proofs.Common.{◌+◌, drop, sym, ap, ◌∙◌, arith}
-use Rattle.std.proofs.lemmas.List.{at_drop_all}
-use Rattle.patterns.specs.Sets.{has}
-use Rattle.patterns.specs.Patterns.{toggled_all, added}
+use Rattle.std.proofs.Common.{[], sym, ap, ◌∙◌}
+use Rattle.std.proofs.lemmas.Bool.{cond-true, lt-ltb}
+use Rattle.patterns.specs.Patterns.{toggled_all}
 use Rattle.patterns.proofs.Toggled.{toggled_all_is}
-use Rattle.matrices.proofs.Lookups.{found_at, ended_at}
-use Rattle.moves.proofs.Scanning.{toggled_more}
+use Rattle.codes.proofs.Walks.{rest_by_check, start_by_check}
 use Rattle.moves.proofs.changes.toggle_checks.Goals as goal
 
-pub loop-k-init : goal.loop-k-init
-loop-k-init g c =
+pub loop-u-init : goal.loop-u-init
+loop-u-init g c = ap (toggled_all c.args.remaining.now) (start_by_check g.C.Code.layout c.args.code c.args.v.0 (c.into_iter-u-iterator.ensures.into_iter_gives ∙ c.of-u-items.ensures))
+
+pub loop-u-preserved : goal.loop-u-preserved
+loop-u-preserved g c =
+    ap (λ p. toggled_all p (rest_by_check g.C.Code.layout c.next.new.self)) c.toggle.ensures.after
+    ∙ sym (ap (toggled_all c.loop-u.remaining) c.in-Some.ensures.steps)
+    ∙ c.loop-u.invariant
+
+pub returns : goal.returns
+returns g c =
     let l = g.C.Code.layout c.args.code.now in
     let v = c.args.v.0 in
     let paired = (g.met.C.Code.sound c.args.code.now).by_check in
-    toggled_all_is l.checks (l.checks_of v) c.args.remaining.now c.requires.fits (λ u on. paired.column_within v u c.requires.v_bound on) (paired.column_apart v c.requires.v_bound)
-
-pub loop-k-preserved : goal.loop-k-preserved
-loop-k-preserved g c =
-    let l = g.C.Code.layout c.args.code.now in
-    let v = c.args.v.0 in
-    let k = c.loop-k.k in
-    let u = c.in-Some.u.0 in
-    ap (λ p. toggled_all p (drop (k + 1) (l.checks_of v))) c.toggle.ensures.after
-    ∙ toggled_more c.loop-k.remaining (l.checks_of v) (added l.checks c.args.remaining.now (has (l.checks_of v))) k u (found_at l.qubits l.checks_of v k c.requires.v_bound u c.in-Some.ensures) c.loop-k.invariant
-
-pub returns-after-loop-k : goal.returns-after-loop-k
-returns-after-loop-k g c =
-    let l = g.C.Code.layout c.args.code.now in
-    let v = c.args.v.0 in
-    sym (at_drop_all (toggled_all c.loop-k.remaining) (l.checks_of v) c.loop-k.k (omega (arith, (g.met.C.Code.sound c.args.code.now).by_check.column_few v c.requires.v_bound))) ∙ c.loop-k.invariant
-
-pub returns-in_default : goal.returns-in_default
-returns-in_default g c =
-    let l = g.C.Code.layout c.args.code.now in
-    let v = c.args.v.0 in
-    sym (at_drop_all (toggled_all c.loop-k.remaining) (l.checks_of v) c.loop-k.k (ended_at l.qubits l.checks_of v c.loop-k.k c.requires.v_bound c.in_default.ensures)) ∙ c.loop-k.invariant
+    sym (ap (toggled_all c.loop-u.remaining) c.in-None.ensures.steps.0)
+    ∙ c.loop-u.invariant
+    ∙ ap (toggled_all c.args.remaining.now) (cond-true _ (l.checks_of v) [] (lt-ltb v l.qubits c.requires.v_bound))
+    ∙ toggled_all_is l.checks (l.checks_of v) c.args.remaining.now c.requires.fits (λ u on. paired.column_within v u c.requires.v_bound on) (paired.column_apart v c.requires.v_bound)

@@ -1,9 +1,10 @@
-use Rattle.std.proofs.Common.{◌≡◌, drop}
-use Rattle.patterns.specs.Sets.{has}
-use Rattle.patterns.specs.Patterns.{added, toggled_all}
+use Rattle.std.proofs.Common.{◌≡◌}
+use Rattle.patterns.specs.Patterns.{toggled_all}
+use Rattle.matrices.specs.Relations.{neighbours}
+use Rattle.codes.proofs.Walks.{rest_by_check}
 use Rattle.moves.proofs.changes.toggle_checks.Given as goal
 
-abbrev pub invariant-loop-k : goal.invariant-loop-k
-invariant-loop-k g l =
-    toggled_all l.remaining (drop l.k ((g.C.Code.layout l.code).checks_of l.v.0))
-    ≡ added (g.C.Code.layout l.code).checks l.initial.remaining (has ((g.C.Code.layout l.code).checks_of l.v.0))
+abbrev pub invariant-loop-u : goal.invariant-loop-u
+invariant-loop-u g l =
+    let c = g.C.Code.layout l.code in
+    toggled_all l.remaining (rest_by_check g.C.Code.layout l.u-iterator) ≡ toggled_all l.fn.remaining (neighbours c.qubits c.checks_of l.fn.v.0)

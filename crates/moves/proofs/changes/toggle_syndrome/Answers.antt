@@ -1,6 +1,5 @@
 use Rattle.std.proofs.Common.{◌+◌, ◌<◌, eqb, get_or, drop, sym, ap, ◌∙◌}
 use Rattle.std.proofs.lemmas.List.{at_drop_more, drop_all}
-use Rattle.std.proofs.ByRecursion.{All-get_or}
 use Rattle.patterns.specs.Sets.{has, parity}
 use Rattle.patterns.specs.Patterns.{width, added}
 use Rattle.patterns.proofs.Added.{added_same, added_added, added_none}
@@ -10,7 +9,7 @@ use Rattle.moves.proofs.changes.toggle_syndrome.Goals as goal
 pub toggle_checks-requires : goal.toggle_checks-requires
 toggle_checks-requires g c =
     let l = g.C.Code.layout c.args.code.now in
-    record { v_bound = All-get_or (λ v. v < l.qubits) c.args.qubits.now c.loop-v.v-index 0 c.loop-v-test.true c.requires.in_range; fits = ap (λ n. eqb n (width l.checks)) c.loop-v.invariant.0 ∙ c.requires.fits }
+    record { v_bound = c.requires.in_range c.loop-v.v-index 0 c.loop-v-test.true; fits = ap (λ n. eqb n (width l.checks)) c.loop-v.invariant.0 ∙ c.requires.fits }
 
 pub loop-v-preserved : goal.loop-v-preserved
 loop-v-preserved g c =

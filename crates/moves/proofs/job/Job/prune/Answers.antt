@@ -3,8 +3,8 @@ use Rattle.std.proofs.lemmas.Result.{err_from_is_err_and}
 use Rattle.refusals.specs.Questions.{first_no}
 use Rattle.refusals.proofs.Asking.{first_no_front, answer_ok, answer_err}
 use Rattle.matrices.proofs.Lookups.{size_within}
+use Rattle.scans.proofs.Scanning.{held_has, held_all}
 use Rattle.patterns.specs.Patterns.{member}
-use Rattle.scans.proofs.Scanning.{held_has}
 use Rattle.moves.specs.Jobs.{pattern_questions, counted, closed}
 use Rattle.moves.specs.Moves.{prune_questions}
 use Rattle.moves.specs.Held.{model}
@@ -24,11 +24,6 @@ returns-in_err-ask_patterns g c =
     let all = first_no_front (pattern_questions l m) (own_questions l m a v) e no in
     rw (p.1, p.2) (refused_at (first_no (prune_questions l m a v)) m (Ok tt, counted (closed l m v)) e all)
 
-pub all_open-requires : goal.all_open-requires
-all_open-requires g c =
-    let l = g.C.Code.layout c.args.code.now in
-    size_within l.generators l.of_generator c.args.g.0 c.in-Some._size c.in-Some.ensures
-
 pub returns : goal.returns
 returns g c =
     let l = g.C.Code.layout c.args.code.now in
@@ -39,5 +34,5 @@ returns g c =
     let g_within = size_within l.generators l.of_generator a c.in-Some._size c.in-Some.ensures in
     let v-within = size_within l.qubits l.checks_of v c.in-Some-checks_of._checks c.in-Some-checks_of.ensures in
     let held = held_has l a v c.if-not-holds.ensures in
-    let all-open = sym c.if-not-all_open.ensures in
-    prune_made l m a v g_within v-within yes held all-open c.toggle.new.bits c.toggle.ensures.after c.one_more-self.result c.one_more-self.ensures
+    let all_open = held_all l (member m.opened) a c.if-not-all_open.ensures in
+    prune_made l m a v g_within v-within yes held all_open c.toggle.new.bits c.toggle.ensures.after c.one_more-self.result c.one_more-self.ensures

@@ -1,0 +1,12 @@
+use Rattle.std.proofs.Common.{◌≡◌, ◌*◌, ◌≤◌, [], length, drop}
+use Rattle.flips.specs.Local.{local_checks}
+use Rattle.flips.proofs.opened.Opened.checks.Given as goal
+
+abbrev pub invariant-loop-v : goal.invariant-loop-v
+invariant-loop-v g l =
+    let c = g.C.Code.layout l.self.code.now in
+    let qubits = l.self.qubits.items in
+    record {
+      few : length l.checks.items ≤ 12 * l.v-index;
+      is : local_checks c l.checks.items (drop l.v-index qubits) ≡ local_checks c [] qubits;
+    }
