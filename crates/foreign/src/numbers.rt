@@ -118,15 +118,15 @@ impl From<Answer> for Numbers {
 
     fn from(answer: Answer) -> Numbers {
         match answer {
-            Answer::Peeled((v, changed)) => Numbers {
-                first: v.0,
-                second: u32::from(changed),
+            Answer::Peeled(peel) => Numbers {
+                first: peel.qubit.0,
+                second: u32::from(peel.changed),
                 ..ACCEPTED
             },
             Answer::Accepted => ACCEPTED,
-            Answer::Flipped((fall, size)) => Numbers {
-                first: fall,
-                second: size,
+            Answer::Flipped(flip) => Numbers {
+                first: flip.fall,
+                second: flip.size,
                 ..ACCEPTED
             },
             Answer::Ran(run) => Numbers {
