@@ -21,6 +21,7 @@ const MOST_QUBITS: u32 = 256;
 const MOST_ROWS: u32 = 128;
 
 // So many rows, one pattern over the qubits after another.
+// A BitRows would tell the columns too, which both kinds of rows have from one number of qubits.
 #[derive(Clone, Copy)]
 pub struct Rows<'a> {
     pub count: u32,
