@@ -7,7 +7,7 @@ use crate::blocks::Block;
 use crate::sides::Side;
 use matrices::families::Family;
 
-// Pair (a, b) is joined to (v, b) for each v joined to a.
+// Pair (a, b) is joined to (v, b) for each v joined to a. A type of its own beside the next one: here a pair keeps its width, and there the width becomes that of the nodes across.
 #[derive(Drop)]
 pub struct FirstMoves<S, T> {
     pub first: S,
