@@ -81,8 +81,7 @@ fn decode<C: Code>(rt: &HostRuntime, code: &C) -> anyhow::Result<()> {
 }
 
 fn run(rt: &HostRuntime) -> anyhow::Result<()> {
-    let graph = read_graph(rt.alloc(), &GRAPH)
-        .context("the graph was refused")?;
+    let graph = read_graph(rt.alloc(), &GRAPH).context("the graph was refused")?;
     decode(rt, &Product::of(graph))
 }
 
