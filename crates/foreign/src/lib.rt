@@ -17,6 +17,7 @@ use kept::Kept;
 use numbers::{Asked, Numbers};
 use std::alloc::Global;
 
+// C hands a job as these four parameters, and a code as a number and bytes.
 // Makes the call that is asked on the job of the four, and leaves in them what it leaves.
 #[unsafe(no_mangle)]
 pub extern "C" fn kotremwa_call(

@@ -95,6 +95,7 @@ impl From<Refusal> for Numbers {
     }
 }
 
+// Verdicts have numbers only here, where C reads them.
 impl From<Verdict> for Numbers {
     ghost from_gives = { λ v n. n ≡ numbers_of (told v) };
 

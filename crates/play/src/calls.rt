@@ -14,6 +14,7 @@ pub(crate) enum Call {
     Verdict,
 }
 
+// The numbers by which C asks.
 impl From<Call> for Asked {
     fn from(call: Call) -> Asked {
         let (call, first, second) = match call {
