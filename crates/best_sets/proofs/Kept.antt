@@ -1,10 +1,10 @@
 -- The sets of a list are what a test can keep of it. Assumes nothing.
-use Rattle.std.proofs.Common.{◌≡◌, ℕ, true, false, cond, ◌||◌, eqb, List, [], ◌∷◌, map, filter, sym, refl, ap, ◌∙◌, ap₂, ⊎_elim}
+use Rattle.std.proofs.Common.{◌≡◌, ℕ, false, ◌||◌, eqb, List, [], ◌∷◌, map, filter, sym, refl, ap, ◌∙◌, ⊎_elim}
 use Rattle.std.specs.List.{Contains, All}
 use Rattle.std.proofs.lemmas.List.Elements.{All-nil, All-cons, All-head, All-tail, All-append, All-map, All-weaker, All-contains, All-contains_itself, Contains-append_left, Contains-append_right}
 use Rattle.std.proofs.lemmas.Bool.{ne_eqb, cases_Bool, both_ways, or_left, or_right, or_cases, cond-true, cond-false, cond_both}
 use Rattle.patterns.specs.Sets.{Set, Inside, has, Apart}
-use Rattle.patterns.proofs.Lists.{has_here}
+use Rattle.patterns.proofs.Lists.{has_here, kept_same}
 use Rattle.best_sets.specs.Best.{sets}
 
 -- ---- each that a test keeps is one of the sets
@@ -39,11 +39,6 @@ sets_all P none taken passed (x ∷ xs) =
     All-append (P (x ∷ xs)) (map (λ f. x ∷ f) (sets xs)) (sets xs)
     (All-map (P (x ∷ xs)) (λ f. x ∷ f) (sets xs) (All-weaker (P xs) (λ f. P (x ∷ xs) (x ∷ f)) (taken x xs) (sets xs) rest))
     (All-weaker (P xs) (P (x ∷ xs)) (passed x xs) (sets xs) rest)
-
--- tests that agree on a list keep the same of it
-kept_same : (s t : Set) (xs : List ℕ) → ((k : ℕ) → has xs k ≡ true → s k ≡ t k) → filter s xs ≡ filter t xs
-kept_same s t [] h = refl
-kept_same s t (x ∷ xs) h = ap₂ (λ b l. cond b (x ∷ l) l) (h x (has_here x xs)) (kept_same s t xs (λ k e. h k (or_right (eqb x k) (has xs k) e)))
 
 -- what is not in a list is in no list inside it
 outside : (xs f : List ℕ) (x : ℕ) → Inside (has f) (has xs) → has xs x ≡ false → has f x ≡ false

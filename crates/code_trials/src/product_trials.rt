@@ -7,6 +7,7 @@ use graph_files::reading::read_graph;
 use graphs::cyclic::Cyclic;
 use products::product::Product;
 use std::test::Fail;
+use tabled_codes::tabled::Tabled;
 
 // Three variables and two checks: check 0 has the variables 0 and 1, and check 1 has 1 and 2.
 pub const EXAMPLE: &[u8; 11] = b"TAN\x00\x01\x00\x03\x00\x02\x03\x06";
@@ -60,6 +61,17 @@ fn the_product_of_the_example(rt: HostRuntime) -> Result<(), Fail> {
     tells(&rt, &once, exchanged)?;
     // Exchanged twice it is the code itself, but for the letter.
     tells(&rt, &Exchanged { code: once }, turned_about(exchanged))
+}
+
+// Written into tables it tells the same, and so does its exchange.
+#[test]
+fn the_product_of_the_example_in_tables(rt: HostRuntime) -> Result<(), Fail> {
+    let graph = read_graph(rt.alloc(), EXAMPLE).ok().ok_or("refused")?;
+    let code = Tabled::of(rt.alloc(), Product::of(graph))
+        .ok()
+        .ok_or("no tables")?;
+    tells(&rt, &code, EXAMPLE_PRODUCT)?;
+    tells(&rt, &Exchanged { code }, turned_about(EXAMPLE_PRODUCT))
 }
 
 #[test]

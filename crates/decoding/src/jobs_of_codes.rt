@@ -31,6 +31,7 @@ fn report<C: Code>(code: &C, job: &Job, ran: Run, out: &mut [u8]) -> Result<usiz
 }
 
 // Opens the job, runs it, and writes its report.
+// The syndrome and the erasure stay two parameters: the calls above and below take two, and a struct would only be packed and unpacked.
 fn work<C: Code>(
     code: &C,
     job: &mut Job,

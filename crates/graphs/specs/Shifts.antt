@@ -4,11 +4,12 @@ use Rattle.std.proofs.Common.{sym, ap, ◌∙◌, subst, ⊎_elim, mod-lt, arith
 use Rattle.std.specs.List.{slice_get}
 use Rattle.std.specs.Option.{option_map}
 use Rattle.std.proofs.lemmas.List.{length-map}
+use Rattle.std.proofs.lemmas.Option.{slice_get-map}
 use Rattle.std.proofs.lemmas.Bool.{and_parts, or_cases, eqb-true, leb-true, ltb-true, lt-ltb, cond-true, cases_Bool, both_ways}
 use Rattle.patterns.specs.Sets.{has, Apart}
 use Rattle.patterns.proofs.Lists.{has_map_from, has_map_same, apart_map}
-use Rattle.matrices.specs.Relations.{Paired, size_at, neighbour}
-use Rattle.matrices.proofs.Lookups.{nth_has, nth_map}
+use Rattle.matrices.specs.Relations.{Paired, neighbour}
+use Rattle.matrices.proofs.Lookups.{nth_has}
 use Rattle.graphs.specs.Tanners.{Wired, counted, most_nodes, most_neighbours}
 use Rattle.graphs.specs.Cycles.{rising_from, rising, shift_count, cyclic}
 use Rattle.graphs.specs.Rotations.{both_ends, on_apart, back_apart}
@@ -74,7 +75,7 @@ wired_cyclic n ss count shifts rises =
 
 module _ (n : ℕ) (f : ℕ → ℕ → ℕ) (ss : List ℕ) (u : ℕ) (here : u < n) where
   at_node : (k : ℕ) → neighbour n (λ u. map (f u) ss) u k ≡ option_map (f u) (slice_get ss k)
-  at_node k = cond-true (nat_lt u n) (slice_get (map (f u) ss) k) None (lt-ltb u n here) ∙ nth_map (f u) ss k
+  at_node k = cond-true (nat_lt u n) (slice_get (map (f u) ss) k) None (lt-ltb u n here) ∙ slice_get-map (f u) ss k
 
   pub neighbour_mapped : (k s : ℕ) → Some s ≡ slice_get ss k → Some (f u s) ≡ neighbour n (λ u. map (f u) ss) u k
   neighbour_mapped k s e = sym (at_node k ∙ ap (option_map (f u)) (sym e))

@@ -1,11 +1,11 @@
 -- Nothing is to be done below a cursor, and what closing a qubit changes of that. Assumes nothing.
-use Rattle.std.proofs.Common.{◌≡◌, ℕ, zero, suc, ◌<◌, ◌≤◌, Bool, true, false, cond, not, ◌&&◌, eqb, List, [], ◌∷◌, is_some, Some, None, filter, Option, sym, refl, ap, ◌∙◌, ⊎_elim, arith}
+use Rattle.std.proofs.Common.{◌≡◌, ℕ, zero, suc, ◌<◌, ◌≤◌, Bool, true, false, cond, not, ◌&&◌, eqb, List, [], ◌∷◌, is_some, Some, None, Option, sym, refl, ap, ◌∙◌, ⊎_elim, arith}
 use mathlib.Core.Bool.{and-true}
-use Rattle.std.proofs.lemmas.Bool.{cases_Bool, eqb-true, or_cases, or_right, both_ways, and_parts, and_from}
+use Rattle.std.proofs.lemmas.Bool.{cases_Bool, eqb-true, or_cases, both_ways, and_parts, and_from}
 use Rattle.patterns.specs.Sets.{Set, has}
 use Rattle.patterns.specs.Patterns.{member, Well}
 use Rattle.patterns.proofs.Added.{well_added}
-use Rattle.patterns.proofs.Lists.{has_here}
+use Rattle.patterns.proofs.Lists.{kept_same}
 use Rattle.patterns.proofs.Packed.{member_below}
 use Rattle.codes.specs.Layouts.{Layout, Sound}
 use Rattle.scans.specs.Scans.{single, is_empty, all_in, meeting}
@@ -50,12 +50,6 @@ least_among x (y ∷ ys) u h =
     (or_cases (eqb y u) (has ys u) h)
 
 -- ---- filters and tests over one list
-
-kept_same : (s t : Set) (xs : List ℕ) → ((k : ℕ) → has xs k ≡ true → s k ≡ t k) → filter s xs ≡ filter t xs
-kept_same s t [] h = refl
-kept_same s t (x ∷ xs) h =
-    let rest = kept_same s t xs (λ k e. h k (or_right (eqb x k) (has xs k) e)) in
-    ap (λ b. cond b (x ∷ filter s xs) (filter s xs)) (h x (has_here x xs)) ∙ ap (λ l. cond (t x) (x ∷ l) l) rest
 
 all_in_more : (s t : Set) → ((k : ℕ) → s k ≡ true → t k ≡ true) → (xs : List ℕ) → all_in s xs ≡ true → all_in t xs ≡ true
 all_in_more s t h [] e = refl

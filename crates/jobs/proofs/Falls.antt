@@ -21,7 +21,8 @@ use Rattle.jobs.specs.Runs.{enough}
 use Rattle.jobs.specs.Calls.{move, Answer, refused, peeled, pruned, flipped, answered_by, call}
 use Rattle.best_sets.proofs.Laws.{lowering_lowers}
 use Rattle.jobs.proofs.Counts.{tally_sum, tally_some, weight_added, weight_closed}
-use Rattle.jobs.proofs.Picks.{some_is, or_else_some, mapped_some, lowest_some, least_in, all_in_has, at_one}
+use Rattle.scans.proofs.Scanning.{all_in_has}
+use Rattle.jobs.proofs.Picks.{some_is, or_else_some, mapped_some, lowest_some, least_in, at_one}
 use Rattle.jobs.proofs.Outcomes.{prune_accepted, flip_accepted}
 use Rattle.jobs.proofs.Fits.{Fits, fits_asked}
 

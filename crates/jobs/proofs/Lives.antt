@@ -14,7 +14,8 @@ use Rattle.moves.specs.Jobs.{Model, opening, changed, closed, counted}
 use Rattle.moves.specs.Moves.{peel_at}
 use Rattle.jobs.specs.Theorem.{SyndromeOf, Explains, GeneratorsInside, generators_sum}
 use Rattle.jobs.proofs.Counts.{member_closed}
-use Rattle.jobs.proofs.Picks.{all_in_has, in_check, at_one, one_inside}
+use Rattle.scans.proofs.Scanning.{all_in_has}
+use Rattle.jobs.proofs.Picks.{in_check, at_one, one_inside}
 use Rattle.jobs.proofs.Keeping.{Keeps}
 use Rattle.jobs.proofs.Books.{one_of, InBooks, books_changed, books_closed, books_peel}
 

@@ -2,11 +2,11 @@
 use Rattle.std.proofs.Common.{◌≡◌, ℕ, zero, suc, ◌<◌, min, Bool, true, false, cond, ◌&&◌, eqb, ◌⊎◌, List, [], ◌∷◌, is_some, Some, None, filter, Option, sym, refl, ap, ◌∙◌, subst, inl, inr, ⊎_elim, arith}
 use mathlib.Core.Bool.{or-false}
 use Rattle.std.specs.Option.{option_map}
-use Rattle.std.proofs.lemmas.Bool.{cases_Bool, cases_lt, cases_eq, eq-eqb, eqb-true, or_right, or_cases, both_ways, and_parts}
+use Rattle.std.proofs.lemmas.Bool.{cases_Bool, cases_lt, cases_eq, eq-eqb, or_right, both_ways, and_parts}
 use Rattle.patterns.specs.Sets.{Set, Inside, has}
 use Rattle.patterns.proofs.Lists.{has_here}
 use Rattle.codes.specs.Layouts.{Layout}
-use Rattle.scans.specs.Scans.{is_empty, all_in, meeting}
+use Rattle.scans.specs.Scans.{is_empty, meeting}
 use Rattle.moves.proofs.Peels.{has_kept}
 use Rattle.jobs.specs.Choosing.{or_else, or_at, lowest, some_below, least}
 
@@ -92,12 +92,6 @@ kept_kept s t h (x ∷ xs) = part (s x) (t x) refl (h x) (kept_kept s t h xs)
     part true false e k rest = rest ∙ sym (tail false e)
     part false true e k rest = absurd (both_ways false refl (k refl))
     part false false e k rest = rest
-
-pub all_in_has : (s : Set) (xs : List ℕ) → all_in s xs ≡ true → (v : ℕ) → has xs v ≡ true → s v ≡ true
-all_in_has s [] h v k = absurd (both_ways false refl k)
-all_in_has s (x ∷ xs) h v k =
-    let both = and_parts (s x) (all_in s xs) h in
-    ⊎_elim (λ e. ap s (sym (eqb-true x v e)) ∙ both.0) (λ e. all_in_has s xs both.1 v e) (or_cases (eqb x v) (has xs v) k)
 
 pub empty_is : (xs : List ℕ) → is_empty xs ≡ true → xs ≡ []
 empty_is [] e = refl

@@ -1,5 +1,5 @@
 -- What a lookup in lists of neighbours answers. Assumes nothing.
-use Rattle.std.proofs.Common.{◌≡◌, ℕ, zero, suc, ◌<◌, ◌≤◌, true, eqb, ltb, List, [], ◌∷◌, map, length, get_or, Some, None, vec_items, vec_len, Option, Vec, sym, refl, ap, ◌∙◌, ⊎_elim, arith, Bor}
+use Rattle.std.proofs.Common.{◌≡◌, ℕ, zero, suc, ◌<◌, ◌≤◌, true, eqb, ltb, List, [], ◌∷◌, map, length, get_or, Some, None, vec_items, vec_len, Option, Vec, sym, ap, ◌∙◌, ⊎_elim, arith, Bor}
 use Rattle.std.specs.List.{slice_get}
 use Rattle.std.specs.Option.{option_map}
 use Rattle.std.specs.Slice.{IsGetResult}
@@ -20,11 +20,6 @@ pub nth_has : (xs : List ℕ) (k x : ℕ) → Some x ≡ slice_get xs k → has 
 nth_has [] k x e = let z : ◌≡◌ {A = ℕ} 0 1 = cc in absurd (omega arith)
 nth_has (y ∷ ys) zero x e = let same : x ≡ y = cc in or_left (eqb y x) (has ys x) (eq-eqb y x (sym same))
 nth_has (y ∷ ys) (suc k) x e = or_right (eqb y x) (has ys x) (nth_has ys k x e)
-
-pub nth_map : (f : ℕ → ℕ) (xs : List ℕ) (k : ℕ) → slice_get (map f xs) k ≡ option_map f (slice_get xs k)
-nth_map f [] k = refl
-nth_map f (x ∷ xs) zero = refl
-nth_map f (x ∷ xs) (suc k) = nth_map f xs k
 
 -- ---- a scan over the neighbours of a node
 

@@ -1,26 +1,18 @@
 -- From what the body of a prune does to what a prune is. Assumes nothing.
-use Rattle.std.proofs.Common.{◌≡◌, ℕ, ◌+◌, ◌<◌, min, true, false, ◌&&◌, ◌||◌, eqb, ltb, List, [], ◌∷◌, None, Ok, sym, refl, ap, ◌∙◌, ⊎_elim}
-use Rattle.std.proofs.lemmas.Bool.{cases_Bool, eqb-true, lt-ltb, and_parts, and_from, both_ways}
+use Rattle.std.proofs.Common.{◌≡◌, ℕ, ◌+◌, ◌<◌, min, true, ◌&&◌, ltb, List, [], ◌∷◌, None, Ok, refl, ap, ◌∙◌}
+use Rattle.std.proofs.lemmas.Bool.{lt-ltb, and_from}
 use Rattle.refusals.specs.declared.Refusal.TheVariants.{NumberOutOfRange, NotInGenerator, NotAllOpen}
 use Rattle.refusals.specs.Questions.{Question, first_no}
 use Rattle.refusals.proofs.Asking.{none_from_yes, first_no_rest}
-use Rattle.patterns.specs.Sets.{Set, has}
+use Rattle.patterns.specs.Sets.{has}
 use Rattle.patterns.specs.Patterns.{member, toggled}
 use Rattle.codes.specs.Layouts.{Layout}
 use Rattle.moves.specs.Jobs.{Model, Outcome, pattern_questions, counted, closed, most_moves}
 use Rattle.scans.specs.Scans.{all_in}
+use Rattle.scans.proofs.Scanning.{all_in_has}
 use Rattle.moves.specs.Moves.{prune_questions, prune_of}
 use Rattle.moves.proofs.Asked.{accepted_at, lengths_asked, model_same}
 use Rattle.moves.proofs.Closing.{closed_is}
-
-each_in : (s : Set) (xs : List ℕ) (v : ℕ) → all_in s xs ≡ true → has xs v ≡ true → s v ≡ true
-each_in s [] v all h = absurd (both_ways false refl h)
-each_in s (x ∷ xs) v all h =
-    let both = and_parts (s x) (all_in s xs) all in
-    ⊎_elim
-    (λ e. sym (ap s (eqb-true x v e)) ∙ both.0)
-    (λ e. each_in s xs v both.1 (sym (ap (λ b. b || has xs v) e) ∙ h))
-    (cases_Bool (eqb x v))
 
 -- the questions of a prune that follow those of every call
 abbrev pub own_questions : Layout → Model → ℕ → ℕ → List Question
@@ -40,5 +32,5 @@ module _ (c : Layout) (m : Model) (g v : ℕ) (g_within : g < c.generators) (v-w
   pub prune_made : (o : List ℕ) → o ≡ toggled m.opened v → (n : ℕ) → n ≡ min (m.moves + 1) most_moves
       → ◌≡◌ {A = Outcome (Unit {0})} (Ok tt, record { remaining = m.remaining; opened = o; correction = m.correction; moves = n }) (prune_of c m g v)
   prune_made o eo n en =
-      ap (λ j. (Ok tt, j)) (model_same refl (eo ∙ closed_is c m v (lengths_asked c m asked).opened v-within (each_in (member m.opened) (c.of_generator g) v all held)) refl en)
+      ap (λ j. (Ok tt, j)) (model_same refl (eo ∙ closed_is c m v (lengths_asked c m asked).opened v-within (all_in_has (member m.opened) (c.of_generator g) all v held)) refl en)
       ∙ accepted_at (first_no (prune_questions c m g v)) m (Ok tt, counted (closed c m v)) all_yes

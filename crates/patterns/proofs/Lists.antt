@@ -1,5 +1,5 @@
 -- Lists as sets, and sets as lists. Assumes nothing.
-use Rattle.std.proofs.Common.{◌≡◌, ℕ, zero, suc, ◌+◌, ◌<◌, Bool, true, false, cond, ◌&&◌, ◌||◌, eqb, ltb, List, [], ◌∷◌, ◌++◌, map, sym, refl, ap, ◌∙◌, ap₂, ⊎_elim, arith}
+use Rattle.std.proofs.Common.{◌≡◌, ℕ, zero, suc, ◌+◌, ◌<◌, Bool, true, false, cond, ◌&&◌, ◌||◌, eqb, ltb, List, [], ◌∷◌, ◌++◌, map, filter, sym, refl, ap, ◌∙◌, ap₂, ⊎_elim, arith}
 use Rattle.std.proofs.lemmas.Bool.{eqb-true, or_right, or_cases, both_ways, false_from_ne_true}
 use Rattle.std.proofs.lemmas.Grind.{common_steps}
 use Rattle.patterns.specs.Sets.{Set, ◌⊕◌, has, parity, Apart, members, all_below}
@@ -136,3 +136,8 @@ all_below_fails n s k l h = grind (arith, common_steps, all_below_at n s)
 
 pub all_below_more : (n : ℕ) (s : Set) → all_below n s ≡ true → s n ≡ true → all_below (n + 1) s ≡ true
 all_below_more n s h k = grind (arith, common_steps)
+
+-- tests that agree on a list keep the same of it
+pub kept_same : (s t : Set) (xs : List ℕ) → ((k : ℕ) → has xs k ≡ true → s k ≡ t k) → filter s xs ≡ filter t xs
+kept_same s t [] h = refl
+kept_same s t (x ∷ xs) h = ap₂ (λ b l. cond b (x ∷ l) l) (h x (has_here x xs)) (kept_same s t xs (λ k e. h k (or_right (eqb x k) (has xs k) e)))

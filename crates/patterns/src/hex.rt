@@ -5,6 +5,7 @@ ghost use Rattle.patterns.specs.Hex.{hex_digit, hexed};
 
 use refusals::Refusal;
 
+// The capital digit. The kit's `hex` spells in small letters where it writes into a slice.
 fn digit(v: u8) -> u8
     requires { v < 16 }
     ensures { result ≡ hex_digit v }

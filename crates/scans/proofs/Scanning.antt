@@ -1,12 +1,12 @@
 -- What the neighbours of a node tell of a check or a generator. Assumes nothing.
-use Rattle.std.proofs.Common.{◌≡◌, ℕ, ◌+◌, ◌<◌, Bool, true, false, cond, not, ◌&&◌, ◌||◌, eqb, ltb, List, [], ◌∷◌, length, drop, is_some, is_none, Some, None, filter, Option, sym, refl, ap, ◌∙◌, arith}
+use Rattle.std.proofs.Common.{◌≡◌, ℕ, ◌+◌, ◌<◌, Bool, true, false, cond, not, ◌&&◌, ◌||◌, eqb, ltb, List, [], ◌∷◌, length, drop, is_some, is_none, Some, None, filter, Option, sym, refl, ap, ◌∙◌, ⊎_elim, arith}
 use Rattle.std.specs.Bool.{then_some}
 use Rattle.std.specs.List.{list_all, list_any}
 use Rattle.std.specs.Option.{option_map}
 use Rattle.std.proofs.lemmas.Iterator.{YieldsList}
 use Rattle.std.proofs.lemmas.Iterator.Consumers.{YieldsList-turn, YieldsList-end}
 use Rattle.std.proofs.lemmas.List.{at_drop_more}
-use Rattle.std.proofs.lemmas.Bool.{cond-true, lt-ltb, and_parts, both_ways}
+use Rattle.std.proofs.lemmas.Bool.{cond-true, lt-ltb, and_parts, both_ways, eqb-true, or_cases}
 use Rattle.patterns.specs.Sets.{Set, has}
 use Rattle.matrices.specs.Relations.{neighbours}
 use Rattle.matrices.proofs.Lookups.{Found}
@@ -101,3 +101,10 @@ held_has c g v e = (and_parts (ltb g c.generators) (has (c.of_generator g) v) (s
 
 pub held_all : (c : Layout) (s : Set) (g : ℕ) → true ≡ all_held c s g → all_in s (c.of_generator g) ≡ true
 held_all c s g e = (and_parts (ltb g c.generators) (all_in s (c.of_generator g)) (sym e)).1
+
+-- each number of a list that is in a set is in it
+pub all_in_has : (s : Set) (xs : List ℕ) → all_in s xs ≡ true → (v : ℕ) → has xs v ≡ true → s v ≡ true
+all_in_has s [] h v k = absurd (both_ways false refl k)
+all_in_has s (x ∷ xs) h v k =
+    let both = and_parts (s x) (all_in s xs) h in
+    ⊎_elim (λ e. ap s (sym (eqb-true x v e)) ∙ both.0) (λ e. all_in_has s xs both.1 v e) (or_cases (eqb x v) (has xs v) k)
