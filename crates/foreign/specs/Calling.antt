@@ -1,5 +1,5 @@
 -- Calls and their answers as jobs know them. Assumes nothing.
-use Rattle.std.specs.Prelude.{cond, Ok, Err, Result}
+use Rattle.std.specs.Prelude.{Ok, Err, Result}
 use Rattle.refusals.specs.declared.Refusal.{Refusal}
 use Rattle.jobs.specs.Moving.{peel, prune, flip}
 use Rattle.jobs.specs.Calls.{Call, move, run, ask, Answer, refused, peeled, pruned, flipped, ran, told}
@@ -18,9 +18,9 @@ meant Ask = ask
 
 -- what an accepted call tells; of an opening no more than of a prune
 abbrev pub meant_answer : Told → Answer
-meant_answer (Peeled p) = peeled p.qubit.0 (cond p.changed 1 0)
+meant_answer (Peeled p) = peeled p.0.0 p.1
 meant_answer Accepted = pruned
-meant_answer (Flipped f) = flipped f.fall f.size
+meant_answer (Flipped p) = flipped p.0 p.1
 meant_answer (Ran r) = ran r
 meant_answer (Stands v) = told v
 

@@ -10,9 +10,7 @@ use codes::code::{Check, Code, Generator, Qubit};
 use jobs::answers::Run;
 use jobs::run::run;
 use jobs::verdict::verdict;
-use moves::flip::Flipped;
 use moves::job::Job;
-use moves::peel::Peeled;
 use refusals::Refusal;
 use verdicts::Verdict;
 
@@ -29,9 +27,9 @@ pub(crate) enum Call {
 // What an accepted call tells; a prune and an opening tell nothing more than that.
 #[derive(Clone, Copy)]
 pub(crate) enum Answer {
-    Peeled(Peeled),
+    Peeled((Qubit, u8)),
     Accepted,
-    Flipped(Flipped),
+    Flipped((u32, u32)),
     Ran(Run),
     Stands(Verdict),
 }

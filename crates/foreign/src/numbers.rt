@@ -119,15 +119,15 @@ impl From<Answer> for Numbers {
 
     fn from(answer: Answer) -> Numbers {
         match answer {
-            Answer::Peeled(peel) => Numbers {
-                first: peel.qubit.0,
-                second: u32::from(peel.changed),
+            Answer::Peeled((v, changed)) => Numbers {
+                first: v.0,
+                second: u32::from(changed),
                 ..ACCEPTED
             },
             Answer::Accepted => ACCEPTED,
-            Answer::Flipped(flip) => Numbers {
-                first: flip.fall,
-                second: flip.size,
+            Answer::Flipped((fall, size)) => Numbers {
+                first: fall,
+                second: size,
                 ..ACCEPTED
             },
             Answer::Ran(run) => Numbers {

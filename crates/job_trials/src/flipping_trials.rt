@@ -30,7 +30,7 @@ fn flips<C: Code>(
             moves: 3,
         };
         let told = job.flip(code, Generator(*g)).ok().ok_or("refused")?;
-        assert_eq!(rt; (told.fall, told.size), *answer, "case {i}");
+        assert_eq!(rt; told, *answer, "case {i}");
         let after = State {
             remaining: *left,
             opened: *opened,

@@ -12,8 +12,7 @@ fn peels<C: Code>(
     u: u32,
     answer: (u32, u8),
 ) -> Result<(), Fail> {
-    let told = job.peel(code, Check(u)).ok().ok_or("refused")?;
-    let (Qubit(v), changed) = (told.qubit, u8::from(told.changed));
+    let (Qubit(v), changed) = job.peel(code, Check(u)).ok().ok_or("refused")?;
     assert_eq!(rt; (v, changed), answer);
     Ok(())
 }

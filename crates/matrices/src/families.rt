@@ -52,7 +52,10 @@ impl<F: Family + Drop> Iterator for Neighbours<F> {
     ghost remaining = { item_count (λ s. drop s.next (neighbours (F.nodes s.family) (F.rows s.family) s.node)) };
 
     fn next(&mut self) -> Option<u32> {
-        let v = self.family.neighbour(self.node, self.next)?;
+        // No further neighbour ends every scan.
+        let Some(v) = self.family.neighbour(self.node, self.next) else {
+            return None;
+        };
         self.next += 1;
         Some(v)
     }

@@ -1,6 +1,7 @@
 -- From what the body of a peel does to what a peel is. Assumes nothing.
 use Rattle.std.proofs.Common.{◌≡◌, ℕ, ◌+◌, ◌<◌, min, Bool, true, false, cond, ◌&&◌, ◌||◌, eqb, ltb, List, [], ◌∷◌, Some, None, Ok, filter, sym, refl, ap, ◌∙◌, ⊎_elim, arith}
 use mathlib.Core.Bool.{or-false}
+use mir.Val.{bool_byte}
 use Rattle.std.proofs.lemmas.Bool.{cases_Bool, eqb-true, eq-eqb, lt-ltb, and_parts, cond-true, cond-false}
 use Rattle.refusals.specs.declared.Refusal.TheVariants.{NumberOutOfRange}
 use Rattle.refusals.specs.Questions.{first_no}
@@ -40,6 +41,11 @@ pub single_is : (xs : List ℕ) (v : ℕ) → Some v ≡ single xs → xs ≡ v 
 single_is [] v e = let z : ◌≡◌ {A = ℕ} 0 1 = cc in absurd (omega arith)
 single_is (x ∷ []) v e = let same : x ≡ v = cc in ap (λ y. y ∷ []) same
 single_is (x ∷ y ∷ ys) v e = let z : ◌≡◌ {A = ℕ} 0 1 = cc in absurd (omega arith)
+
+-- a yes or no as a byte
+pub bit_byte : (b : Bool) → bool_byte b ≡ cond b 1 0
+bit_byte true = refl
+bit_byte false = refl
 
 -- ---- a peel
 

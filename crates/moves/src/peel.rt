@@ -9,16 +9,10 @@ use codes::code::{Check, Code, Qubit};
 use patterns::items::toggle;
 use refusals::Refusal;
 
-// What a peel did: the qubit that it closed, and whether the correction changed there.
-#[derive(Clone, Copy, PartialEq, Eq, Debug)]
-pub struct Peeled {
-    pub qubit: Qubit,
-    pub changed: bool,
-}
-
 impl<'a> Job<'a> {
-    // Peels the check, which closes its open qubit.
-    pub fn peel<C: Code>(&mut self, code: &C, u: Check) -> Result<Peeled, Refusal>
+    // Peels the check; answers its open qubit, with 1 or 0 for whether the qubit changed.
+    // A pair with a number, and no struct or `bool`: a rule of the project for what a peel answers.
+    pub fn peel<C: Code>(&mut self, code: &C, u: Check) -> Result<(Qubit, u8), Refusal>
         ensures { (by_number result, model self.new) ≡ peel_of (C.layout code.now) (model self.old) u.0 }
     {
         self.ask_patterns(code)?;
@@ -35,6 +29,6 @@ impl<'a> Job<'a> {
         }
         toggle(self.opened, qubit.0);
         self.moves = one_more(self.moves);
-        Ok(Peeled { qubit, changed })
+        Ok((qubit, u8::from(changed)))
     }
 }

@@ -47,12 +47,6 @@ pub byte_weight_is : (b : ℕ) → b < 256 → byte_weight b ≡ ones b
 unfolding byte_weight
 byte_weight_is b h = sym (ones_tally 8 b h)
 
--- the weight of bytes is the sum of their ones
-pub weight_ones : (p : List ℕ) → ((i : ℕ) → Fits w8 (get_or p i 0)) → weight p ≡ sum_by ones p
-weight_ones [] h = refl
-weight_ones (b ∷ bs) h =
-    ap₂ ◌+◌ (byte_weight_is b (h 0).fits) (weight_ones bs (λ i. h (suc i))) ∙ sym (sum_by-cons ones b bs)
-
 pub weight_tally : (p : List ℕ) → weight p ≡ tally (length p * 8) (member p)
 unfolding byte_weight member
 weight_tally [] = refl

@@ -5,7 +5,6 @@ use anyhow::Context;
 use codes::code::{Check, Code, Generator, Qubit};
 use graph_files::reading::read_graph;
 use moves::job::Job;
-use moves::peel::Peeled;
 use patterns::items::contains;
 use products::product::Product;
 use std::io;
@@ -34,10 +33,9 @@ fn print_job<C: Code>(rt: &HostRuntime, code: &C, job: &Job) -> io::Result<()> {
 }
 
 fn peel<C: Code>(rt: &HostRuntime, code: &C, job: &mut Job, u: Check) -> anyhow::Result<()> {
-    let Peeled { qubit, changed } = job.peel(code, u).context("the peel was refused")?;
+    let (v, changed) = job.peel(code, u).context("the peel was refused")?;
     let check = u.0;
-    let qubit = qubit.0;
-    let changed = u8::from(changed);
+    let qubit = v.0;
     println!(rt; "peel check {check}: qubit {qubit}, changed {changed}")?;
     print_job(rt, code, job)?;
     Ok(())

@@ -11,7 +11,7 @@ use Rattle.scans.specs.Scans.{single, meeting}
 use Rattle.moves.specs.Moves.{peel_questions, peel_by}
 use Rattle.moves.specs.Held.{model}
 use Rattle.moves.proofs.Asked.{refused_at, lengths_asked, model_same}
-use Rattle.moves.proofs.Peels.{half_way, peeled_below, peel_made, peel_accepted}
+use Rattle.moves.proofs.Peels.{bit_byte, half_way, peeled_below, peel_made, peel_accepted}
 use Rattle.moves.proofs.job.Job.peel.Goals as goal
 use Rattle.moves.proofs.job.Job.peel.Goals.{then-changed, else-changed}
 
@@ -52,5 +52,5 @@ returns g c =
       | else-changed w ↦ ap model w.self-is ∙ sym (ap (half_way l m v) w.if-changed.false)
     ] in
     let after = peel_made l sound m u v within only (lengths_asked l m yes) changes c.remains-changed.ensures (model c.if-changed.self) was c.toggle-2.new.bits c.toggle-2.ensures.after c.one_more-self.result c.one_more-self.ensures in
-    ap₂ (λ x j. (Ok (v, x), j)) (ap (λ b. cond b 1 0) c.remains-changed.ensures) after
+    ap₂ (λ x j. (Ok (v, x), j)) (c.from.ensures ∙ bit_byte changes ∙ ap (λ b. cond b 1 0) c.remains-changed.ensures) after
     ∙ peel_accepted l sound m u v within only yes
