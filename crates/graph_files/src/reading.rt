@@ -35,7 +35,7 @@ fn read_head<'a>(file: &'a [u8]) -> Result<BitRows<'a>, Refusal>
         × (m.bytes.now ≡ rows_in file.now))
         (λ e. first_no (head_questions file.now) ≡ Some e) }
 {
-    let [t, a, n, v1, v0, n1, n0, m1, m0, bytes @ ..] = file else {
+    let [t, a, n, v1, v0, n1, n0, m1, m0, rows @ ..] = file else {
         return Err(Refusal::HeadCutShort);
     };
     if [*t, *a, *n] != *b"TAN" {
@@ -52,7 +52,7 @@ fn read_head<'a>(file: &'a [u8]) -> Result<BitRows<'a>, Refusal>
     Ok(BitRows {
         rows: checks,
         columns: variables,
-        bytes,
+        bytes: rows,
     })
 }
 
