@@ -10,6 +10,7 @@ use std::io::Write;
 const MOST_INPUT: u64 = 8192;
 
 // No report is longer: two patterns of 2,304 bytes, in two digits a byte, and five lines around them.
+// An array with the size beside, since decoding writes at the front of bytes that it is lent.
 const MOST_OUTPUT: usize = 9600;
 
 fn run(rt: &HostRuntime) -> anyhow::Result<()> {
