@@ -1,5 +1,5 @@
 -- Sets of local checks as bits of three words. Assumes nothing.
-use Rattle.std.proofs.Common.{◌≡◌, ℕ, zero, suc, ◌+◌, ◌*◌, ◌/◌, ◌%◌, ◌^◌, ◌<◌, ◌≤◌, Bool, true, false, not, cond, ◌&&◌, ◌||◌, eqb, ltb, List, [], ◌∷◌, ◌++◌, length, get_or, take, replicate, Some, None, sym, refl, ap, ◌∙◌, ap₂, ⊎_elim, arith, lit<, length-set, get_or-set_other, get_or-set_same}
+use Rattle.std.proofs.Common.{◌≡◌, ℕ, zero, suc, ◌+◌, ◌*◌, ◌/◌, ◌%◌, ◌^◌, ◌<◌, ◌≤◌, Bool, true, false, not, cond, ◌&&◌, ◌||◌, eqb, ltb, List, [], ◌∷◌, ◌++◌, map, length, get_or, take, replicate, Some, None, sym, refl, ap, ◌∙◌, ap₂, ⊎_elim, arith, lit<, length-set, get_or-set_other, get_or-set_same}
 use lib.Bits.{bit_xor, xor_lt}
 use Rattle.std.specs.List.{All, position, prefix_len}
 use Rattle.std.proofs.lemmas.Nat.{pow_below}
@@ -12,7 +12,7 @@ use Rattle.patterns.proofs.Sums.{plus_zero, plus_comm}
 use Rattle.patterns.proofs.Lists.{has_here}
 use Rattle.patterns.proofs.Bits.{bit_of_xor, bit_pow}
 use Rattle.best_sets.specs.Walk.{changed_by}
-use Rattle.flips.specs.Local.{bit_at, at, Marks, marked}
+use Rattle.flips.specs.Local.{bit_at, at, Marks, marked, one_if}
 use Rattle.flips.proofs.Gathered.{has_get_d, has_first}
 
 pub at_add : (ds : List ℕ) (p q : Set) (j : ℕ) → at ds (λ u. p u ⊕ q u) j ≡ (at ds p j ⊕ at ds q j)
@@ -27,6 +27,23 @@ at_same (d ∷ ds) p q (suc j) h = at_same ds p q j (λ u k. h u (or_right (eqb 
 
 pub marks_same : (ds : List ℕ) (p q : Set) (ws : List ℕ) → ((u : ℕ) → has ds u ≡ true → p u ≡ q u) → Marks ds p ws → Marks ds q ws
 marks_same ds p q ws h m = record { three = m.three; words = m.words; each = λ j. m.each j ∙ at_same ds p q j h }
+
+at_map : (f : ℕ → ℕ) (ds : List ℕ) (p : Set) (j : ℕ) → at (map f ds) p j ≡ at ds (λ u. p (f u)) j
+at_map f [] p j = refl
+at_map f (d ∷ ds) p zero = refl
+at_map f (d ∷ ds) p (suc j) = at_map f ds p j
+
+one_of : (b : Bool) → eqb 1 (one_if b) ≡ b
+one_of true = refl
+one_of false = refl
+
+-- the ones among bits that are written out as numbers
+pub marks_written : (ds : List ℕ) (p : Set) (ws : List ℕ) → Marks (map (λ u. one_if (p u)) ds) (eqb 1) ws → Marks ds p ws
+marks_written ds p ws m = record {
+  three = m.three;
+  words = m.words;
+  each = λ j. m.each j ∙ at_map (λ u. one_if (p u)) ds (eqb 1) j ∙ at_same ds (λ u. eqb 1 (one_if (p u))) p j (λ u _. one_of (p u));
+}
 
 changed_at : (a b : List ℕ) → length a ≡ 3 → length b ≡ 3 → (i : ℕ) → get_or (changed_by a b) i 0 ≡ bit_xor (get_or a i 0) (get_or b i 0)
 changed_at a b ha hb zero = refl

@@ -5,7 +5,7 @@ ghost use Rattle.patterns.specs.Patterns.{fitting, tidy};
 ghost use Rattle.flips.specs.Local.{Rows, BestBy};
 ghost use Rattle.flips.specs.Flips.{left_by};
 
-use crate::marks::{places, row};
+use crate::marks::{packed, read_parities, row};
 use crate::opened::Opened;
 use arrayvec::ArrayVec;
 use best_sets::{Words, best_choice, weigh};
@@ -38,9 +38,14 @@ impl<'a, C: Code> Opened<'a, C> {
         requires unused_zero { tidy (C.layout self.now.code.now).checks remaining.now ≡ true }
         ensures { MatchOption result ⊥ (λ b. BestBy (left_by (C.layout self.now.code.now) remaining.now) self.now.qubits.items b.fall b.picks) }
     {
-        let checks = self.checks();
-        let start = places(remaining, &checks);
-        let best = best_choice(&self.rows(&checks), start)?;
+        // Arrays of plain numbers with their count: a rule of the project for the checks of a flip, which are at most 144.
+        let mut checks = [0; 144];
+        let count = self.gather_checks(&mut checks);
+        let local = &checks[..count];
+        let mut parities = [0; 144];
+        read_parities(remaining, local, &mut parities);
+        let start = packed(&parities[..count]);
+        let best = best_choice(&self.rows(local), start)?;
         Some(Best {
             fall: weigh(start) - best.weight,
             picks: best.picks,

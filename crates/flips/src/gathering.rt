@@ -1,37 +1,41 @@
 // The checks that meet the qubits of one generator: at most twelve of each qubit, so at most 144.
-ghost use Rattle.std.specs.Prelude.{◌≡◌, ◌+◌, ◌<◌, ◌≤◌, []};
-ghost use Rattle.arrayvec.specs.ArrayVec.{array_vec_len};
+ghost use Rattle.std.specs.Prelude.{◌≡◌, ◌+◌, ◌<◌, ◌≤◌, [], length, take};
 ghost use Rattle.flips.specs.Local.{gathered, local_checks};
 
 use crate::opened::Opened;
-use arrayvec::ArrayVec;
 use codes::code::{Code, Qubit};
 use codes::families::ByCheck;
 use matrices::families::Neighbours;
 
-// Adds the checks of v that are not there yet.
-fn gather<C: Code>(code: &C, v: Qubit, checks: &mut ArrayVec<u32, 144>)
+// Adds the checks of v that are not among the first `count` yet; answers how many there are then.
+fn gather<C: Code>(code: &C, v: Qubit, checks: &mut [u32], count: usize) -> usize
     requires v_bound { v.0 < (C.layout code.now).qubits }
-    requires room { array_vec_len checks.old ≤ 132 }
-    ensures is { checks.new.items ≡ gathered checks.old.items ((C.layout code.now).checks_of v.0) }
-    ensures few { array_vec_len checks.new ≤ array_vec_len checks.old + 12 }
+    requires checks_len { length checks.old ≡ 144 }
+    requires count_bound { count ≤ 132 }
+    ensures is { take result checks.new ≡ gathered (take count checks.old) ((C.layout code.now).checks_of v.0) }
+    ensures few { result ≤ count + 12 }
 {
+    let mut n = count;
     for u in Neighbours::of(ByCheck { code }, v.0) {
-        if !checks.contains(&u) {
-            checks.push(u);
+        if !checks[..n].contains(&u) {
+            checks[n] = u;
+            n += 1;
         }
     }
+    n
 }
 
 impl<'a, C: Code> Opened<'a, C> {
-    // The checks that meet the qubits, each once.
-    pub(crate) fn checks(&self) -> ArrayVec<u32, 144>
-        ensures { result.items ≡ local_checks (C.layout self.now.code.now) [] self.now.qubits.items }
+    // The checks that meet the qubits, each once, in front of the array; answers how many they are.
+    pub(crate) fn gather_checks(&self, checks: &mut [u32]) -> usize
+        requires { length checks.old ≡ 144 }
+        ensures is { take result checks.new ≡ local_checks (C.layout self.now.code.now) [] self.now.qubits.items }
+        ensures few { result ≤ 144 }
     {
-        let mut checks = ArrayVec::new();
+        let mut count = 0;
         for v in self.qubits.iter() {
-            gather(self.code, Qubit(*v), &mut checks);
+            count = gather(self.code, Qubit(*v), checks, count);
         }
-        checks
+        count
     }
 }

@@ -1,9 +1,9 @@
 // Sets of local checks as bits of three words: 144 checks take three of 64 bits.
-ghost use Rattle.std.specs.Prelude.{◌≡◌, ◌*◌, ◌<◌, ◌≤◌, length, ◌==◌};
+ghost use Rattle.std.specs.Prelude.{◌≡◌, ◌*◌, ◌<◌, ◌≤◌, map, length, take, nat_eq, ◌==◌};
 ghost use Rattle.std.specs.List.{position};
 ghost use Rattle.patterns.specs.Sets.{has, Apart};
 ghost use Rattle.patterns.specs.Patterns.{member};
-ghost use Rattle.flips.specs.Local.{Marks, marked};
+ghost use Rattle.flips.specs.Local.{Marks, marked, one_if};
 
 use best_sets::Words;
 use codes::code::{Code, Qubit};
@@ -42,14 +42,24 @@ pub(crate) fn row<C: Code>(code: &C, v: Qubit, checks: &[u32]) -> Words
     words
 }
 
-// The places of the checks that are in the remaining syndrome.
-pub(crate) fn places(remaining: &[u8], checks: &[u32]) -> Words
-    requires { length checks.now ≤ 144 }
-    ensures { Marks checks.now (member remaining.now) result }
+// For each check 1 where it is in the remaining syndrome, and 0 where it is not.
+pub(crate) fn read_parities(remaining: &[u8], checks: &[u32], parities: &mut [u32])
+    requires { length checks.now ≤ length parities.old }
+    ensures { take (length checks.now) parities.new ≡ map (λ u. one_if (member remaining.now u)) checks.now }
+{
+    for (j, u) in checks.iter().enumerate() {
+        parities[j] = u32::from(contains(remaining, *u));
+    }
+}
+
+// The places of the ones.
+pub(crate) fn packed(parities: &[u32]) -> Words
+    requires { length parities.now ≤ 144 }
+    ensures { Marks parities.now (nat_eq 1) result }
 {
     let mut words = [0; 3];
-    for (j, u) in checks.iter().enumerate() {
-        if contains(remaining, *u) {
+    for (j, parity) in parities.iter().enumerate() {
+        if *parity == 1 {
             mark(&mut words, j);
         }
     }

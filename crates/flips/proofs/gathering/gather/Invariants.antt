@@ -1,4 +1,4 @@
-use Rattle.std.proofs.Common.{◌≡◌, ◌+◌, ◌≤◌, length, drop}
+use Rattle.std.proofs.Common.{◌≡◌, ◌+◌, ◌≤◌, length, take, drop}
 use Rattle.matrices.specs.Relations.{neighbours}
 use Rattle.flips.specs.Local.{gathered}
 use Rattle.flips.proofs.gathering.gather.Given as goal
@@ -9,6 +9,7 @@ invariant-loop-u g l =
     let c = g.C.Code.layout it.family.code.now in
     let rest = drop it.next (neighbours c.qubits c.checks_of it.node) in
     record {
-      few : length l.checks.items + length rest ≤ length l.fn.checks.items + 12;
-      is : gathered l.checks.items rest ≡ gathered l.fn.checks.items ((g.C.Code.layout l.fn.code).checks_of l.fn.v.0);
+      long : length l.checks ≡ 144;
+      few : l.n + length rest ≤ l.fn.count + 12;
+      is : gathered (take l.n l.checks) rest ≡ gathered (take l.fn.count l.fn.checks) ((g.C.Code.layout l.fn.code).checks_of l.fn.v.0);
     }
