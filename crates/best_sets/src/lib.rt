@@ -55,6 +55,7 @@ struct Begun {
     picks: u32,
 }
 
+// The bounds stay required: the last sets of a walk go past them, as choices that are not begun again.
 impl Begun {
     // With the next row.
     fn with(self, row: Words) -> Begun

@@ -21,10 +21,9 @@ fn fills<C: Code>(
 ) -> Result<(), Fail> {
     for (i, (set, before, number, after)) in cases.iter().enumerate() {
         let mut out = Vec::from_slice(heap, *before)?;
-        let refused = match syndrome(code, *set, out.as_mut_slice()) {
-            Ok(()) => None,
-            Err(refusal) => Some(refusal.number()),
-        };
+        let refused = syndrome(code, *set, out.as_mut_slice())
+            .err()
+            .map(|refusal| refusal.number());
         assert_eq!(rt; refused, *number, "case {i}");
         assert!(rt; out.as_slice() == *after, "case {i}");
     }
@@ -36,10 +35,7 @@ type Compared<'a> = (&'a [u8], &'a [u8], Result<bool, u8>);
 
 fn compares<C: Code>(rt: &impl Abort, code: &C, cases: &[Compared<'_>]) {
     for (i, (one, two, expected)) in cases.iter().enumerate() {
-        let answer = match alike(code, *one, *two) {
-            Ok(same) => Ok(same),
-            Err(refusal) => Err(refusal.number()),
-        };
+        let answer = alike(code, *one, *two).map_err(|refusal| refusal.number());
         assert_eq!(rt; answer, *expected, "case {i}");
     }
 }

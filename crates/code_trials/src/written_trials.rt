@@ -23,10 +23,7 @@ fn answers(rt: &impl Abort, heap: Global, cases: &[Asked<'_>]) {
                 bytes: *generators,
             },
         );
-        let refused = match made {
-            Ok(_) => None,
-            Err(refusal) => Some(refusal.number()),
-        };
+        let refused = made.err().map(|refusal| refusal.number());
         assert_eq!(rt; refused, *number, "case {i}");
     }
 }

@@ -1,4 +1,4 @@
-// The four families of nodes of a code.
+// The four families of nodes of a code. Four structs and not one with a parameter, since each asks other methods of the code.
 ghost use Rattle.codes.specs.Shorts.{short_check, short_generator, short_by_check, short_by_generator};
 
 use crate::code::{Check, Code, Generator, Qubit};

@@ -26,6 +26,7 @@ impl<'a, C: Code> Opened<'a, C> {
     fn picked(&self, best: Best) -> Flip
         ensures { told result ≡ (best.fall, picked best.picks self.now.qubits.items) }
     {
+        // The array of a flip is filled with its count, as it holds both.
         let mut chosen = [0; 12];
         let mut size = 0;
         for (i, v) in self.qubits.iter().enumerate() {

@@ -7,6 +7,7 @@ use codes::code::{Code, Qubit};
 use codes::families::ByCheck;
 use matrices::families::Neighbours;
 
+// That v is one of the code is required, since `Opened` hands on one qubit at a time.
 // Adds the checks of v that are not among the first `count` yet; answers how many there are then.
 fn gather<C: Code>(code: &C, v: Qubit, checks: &mut [u32], count: usize) -> usize
     requires v_bound { v.0 < (C.layout code.now).qubits }

@@ -11,6 +11,8 @@ use codes::families::ByCheck;
 use matrices::families::Neighbours;
 use patterns::items::contains;
 
+// That a qubit is one of the code, and that checks are few and apart, stays required here: the checks are a slice of a scratch array, which no type of ours owns.
+
 // Place j marked, or no longer.
 fn mark(words: &mut [u64], j: usize)
     requires { j < 64 * length words.old }

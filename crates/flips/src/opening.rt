@@ -10,6 +10,7 @@ use codes::families::Generators;
 use matrices::families::Neighbours;
 use patterns::items::contains;
 
+// That the generator is one of the code stays required: a generator that keeps it would hold the code too, for two calls.
 // The open qubits of the generator, rising.
 fn open_qubits<C: Code>(code: &C, opened: &[u8], g: Generator) -> ArrayVec<u32, 12>
     requires { g.0 < (C.layout code.now).generators }

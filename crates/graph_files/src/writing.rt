@@ -6,7 +6,7 @@ ghost use Rattle.graphs.specs.Tanners.{most_nodes};
 ghost use Rattle.graph_files.specs.Files.{head_of, row_of, rows_of, file_of, WrittenIsRead};
 
 use graphs::families::Checks;
-use graphs::graph::Graph;
+use graphs::graph::{CheckNode, Graph};
 use matrices::families::Neighbours;
 use patterns::items::toggle;
 use patterns::shapes::width;
@@ -27,13 +27,13 @@ fn write_head(variables: u32, checks: u32, out: &mut [u8])
 }
 
 // The pattern of the variables of check p.
-fn write_row<G: Graph>(graph: &G, p: u32, row: &mut [u8])
-    requires p_bound { p < (G.tanner graph.now).checks }
+fn write_row<G: Graph>(graph: &G, p: CheckNode, row: &mut [u8])
+    requires p_bound { p.0 < (G.tanner graph.now).checks }
     requires row_len { length row.old ≡ width (G.tanner graph.now).variables }
-    ensures { row.new ≡ row_of (G.tanner graph.now) p }
+    ensures { row.new ≡ row_of (G.tanner graph.now) p.0 }
 {
     row.fill(0);
-    for v in Neighbours::of(Checks { graph }, p) {
+    for v in Neighbours::of(Checks { graph }, p.0) {
         toggle(row, v);
     }
 }
@@ -47,7 +47,7 @@ fn write_rows<G: Graph>(graph: &G, rows: &mut [u8])
     // No loop over chunks_exact_mut: a proof knows nothing of the bytes that it wrote.
     for p in 0..graph.checks() {
         let from = width * p as usize;
-        write_row(graph, p, &mut rows[from..from + width]);
+        write_row(graph, CheckNode(p), &mut rows[from..from + width]);
     }
 }
 

@@ -26,10 +26,7 @@ fn shifts_are_asked_in_order(rt: HostRuntime) {
         (6, &[0, 1, 2, 3, 4, 5], None),
     ];
     for (i, (count, shifts, number)) in cases.iter().enumerate() {
-        let refused = match Cyclic::new(rt.alloc(), *count, *shifts) {
-            Ok(_) => None,
-            Err(refusal) => Some(refusal.number()),
-        };
+        let refused = Cyclic::new(rt.alloc(), *count, *shifts).err().map(|refusal| refusal.number());
         assert_eq!(rt; refused, *number, "case {i}");
     }
 }

@@ -10,10 +10,7 @@ pub const EXAMPLE: &[u8; 11] = b"TAN\x00\x01\x00\x03\x00\x02\x03\x06";
 
 // The number of the question that the file answers with no; nothing where it is accepted.
 fn refused(heap: Global, file: &[u8]) -> Option<u8> {
-    match read_graph(heap, file) {
-        Ok(_) => None,
-        Err(refusal) => Some(refusal.number()),
-    }
+    read_graph(heap, file).err().map(|refusal| refusal.number())
 }
 
 fn answers(rt: &impl Abort, heap: Global, files: &[(&[u8], Option<u8>)]) {

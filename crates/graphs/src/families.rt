@@ -1,4 +1,4 @@
-// The two families of nodes of a graph.
+// The two families of nodes of a graph. Two structs and not one with a parameter, since each asks other methods of the graph.
 ghost use Rattle.graphs.specs.Shorts.{short_check, short_variable};
 
 use crate::graph::{CheckNode, Graph, VariableNode};

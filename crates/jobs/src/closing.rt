@@ -94,7 +94,7 @@ fn make<C: Code>(code: &C, job: &mut Job, step: Closing)
     }
 }
 
-// Peels and prunes until neither applies; answers how many of each there were.
+// Peels and prunes until neither applies; answers how many of each there were. The code and the job are two parameters, as in `make`.
 pub(crate) fn close_all<C: Code>(code: &C, job: &mut Job) -> Counts
     requires { first_no (pattern_questions (C.layout code.now) (model job.old)) ≡ None }
     ensures came { Came (C.layout code.now) none_yet (model job.old) result (model job.new) }

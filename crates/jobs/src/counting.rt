@@ -1,4 +1,4 @@
-// How many moves of each kind a run made.
+// How many moves of each kind a run made. `Run` has the same three beside its verdict, and is public with them.
 
 #[derive(Clone, Copy, Default)]
 pub(crate) struct Counts {

@@ -13,6 +13,7 @@ use crate::position::Position;
 use codes::code::Code;
 use moves::job::Job;
 
+// The code and the job are two parameters, as where a step is made.
 // Flips until no generator has a set lowering the weight; answers the counts with these flips. A flip leaves the open qubits, so nothing can be closed after it either.
 pub(crate) fn flip_all<C: Code>(code: &C, job: &mut Job, mut counts: Counts) -> Counts
     requires patterns { first_no (pattern_questions (C.layout code.now) (model job.old)) ≡ None }

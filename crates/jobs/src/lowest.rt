@@ -1,4 +1,5 @@
 // The lowest of the qubits of a generator, and of the checks of a qubit.
+// That both are of the code stays required: a number that keeps it would hold the code too, for one call.
 ghost use Rattle.std.specs.Prelude.{◌≡◌, ◌<◌, ◌∷◌};
 ghost use Rattle.jobs.specs.Choosing.{least};
 

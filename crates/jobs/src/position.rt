@@ -42,6 +42,7 @@ impl<'a, 'b, C: Code> Position<'a, 'b, C> {
         (from..self.code.checks()).find_map(|u| self.as_dangling(Check(u)))
     }
 
+    // That the generator is one of the code stays required, here and below: a range gives one that is, and a number that keeps it would hold the code too.
     // Whether the generator has qubits, and all are open.
     fn is_wholly_open(&self, g: Generator) -> bool
         requires { g.0 < (C.layout self.now.code.now).generators }

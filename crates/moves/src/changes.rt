@@ -10,7 +10,7 @@ use codes::families::ByCheck;
 use matrices::families::Neighbours;
 use patterns::items::toggle;
 
-// Changes every check of qubit v.
+// Changes every check of qubit v, which is one of the code: a number that keeps it would hold the code too, for one call.
 pub(crate) fn toggle_checks<C: Code>(code: &C, remaining: &mut [u8], v: Qubit)
     requires v_bound { v.0 < (C.layout code.now).qubits }
     requires fits { fitting (C.layout code.now).checks remaining.old ≡ true }

@@ -25,7 +25,7 @@ impl<'a> Job<'a> {
         Ok(())
     }
 
-    // Opens the job new on a syndrome and an erasure.
+    // Opens the job new on a syndrome and an erasure. They stay two parameters: the laboratories send two patterns, and a struct would only be unpacked here.
     pub fn open<C: Code>(
         &mut self,
         code: &C,

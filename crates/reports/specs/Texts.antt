@@ -1,7 +1,7 @@
 -- Lines of words and values. Assumes nothing.
 use Rattle.std.specs.Prelude.{ℕ, ◌+◌, ◌*◌, List, [], ◌∷◌, ◌++◌, length}
 use Rattle.patterns.specs.Hex.{hexed}
-use Rattle.reports.specs.declared.pieces.PatternLine.{PatternLine}
+use Rattle.reports.specs.declared.pattern_line.PatternLine.{PatternLine}
 
 -- values, each after a space, and the end of the line
 abbrev pub spaced : List (List ℕ) → List ℕ

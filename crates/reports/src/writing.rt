@@ -5,7 +5,8 @@ ghost use Rattle.refusals.specs.Outputs.{answered, written};
 ghost use Rattle.reports.specs.Texts.{line_size, line_text};
 ghost use Rattle.reports.specs.Reports.{told, short_lines, report_of, report_questions, report_answer, report_output, ReportDetermines};
 
-use crate::pieces::{PatternLine, put, put_counts};
+use crate::pattern_line::PatternLine;
+use crate::pieces::{put, put_counts};
 use crate::report::Report;
 use arrayvec::ArrayVec;
 use codes::code::Code;
@@ -46,9 +47,7 @@ fn short_lines<C: Code>(code: &C, report: Report<'_>) -> ArrayVec<u8, MOST_SHORT
 
 // Writes the short lines and those of two patterns, for which `out` has just the room.
 fn fill(short: &[u8], fix: PatternLine<'_>, opened: PatternLine<'_>, out: &mut [u8])
-    requires out_len { length out.old ≡ length short.now + (line_size fix + line_size opened) }
-    requires fix_len_bound { length fix.bytes.now < 2 ^ 32 }
-    requires word_len_bound { length fix.word.now < 2 ^ 32 }
+    requires { length out.old ≡ length short.now + (line_size fix + line_size opened) }
     ensures { out.new ≡ short.now ++ (line_text fix.entry ++ line_text opened.entry) }
 {
     let (front, patterns) = out.split_at_mut(short.len());

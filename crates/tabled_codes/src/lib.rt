@@ -1,4 +1,4 @@
-// Codes whose neighbours are written into flat tables.
+// Codes whose neighbours are written into tables.
 #![tactic(auto)]
 
 mod filling;

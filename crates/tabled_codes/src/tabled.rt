@@ -1,4 +1,4 @@
-// Any code with its neighbours written into flat tables, and answered from there.
+// Any code with its neighbours written into tables, and answered from there.
 ghost use Rattle.std.specs.Prelude.{◌≡◌, MatchResult};
 ghost use Rattle.refusals.specs.declared.Refusal.TheVariants.{OutOfMemory};
 ghost use Rattle.tabled_codes.specs.Held.{layout_of};

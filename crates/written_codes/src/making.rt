@@ -49,7 +49,7 @@ struct Sides<'a> {
     ghost same_qubits: { generators.columns ≡ checks.columns },
 }
 
-// Whether there is at least one, and no more than `most`.
+// Whether there is at least one, and no more than `most`. Graphs test against one largest count, so their test has no parameter.
 fn is_within(most: u32, count: u32) -> bool
     ensures { result ≡ within most count }
 {

@@ -8,7 +8,7 @@ use Rattle.graph_files.proofs.writing.write_row.Goals as goal
 pub loop-v-init : goal.loop-v-init
 loop-v-init g c =
     let t = g.G.Graph.tanner c.args.graph.now in
-    let p = c.args.p in
+    let p = c.args.p.0 in
     let walk = rest (λ f. (g.G.Graph.tanner f.graph.now).checks) (λ f. (g.G.Graph.tanner f.graph.now).of_check) in
     ap (λ s. toggled_all c.fill.new.self (walk s)) (c.into_iter-v-iterator.ensures.into_iter_gives ∙ c.of-v-items.ensures)
     ∙ ap (toggled_all c.fill.new.self) (cond-true (ltb p t.checks) (t.of_check p) [] (lt-ltb p t.checks c.requires.p_bound))

@@ -2,7 +2,7 @@ use Rattle.std.proofs.Common.{◌∙◌, arith}
 use Rattle.patterns.specs.Hex.{hexed}
 use Rattle.patterns.proofs.Hexing.{length_hexed}
 use Rattle.reports.proofs.Filled.{written_whole}
-use Rattle.reports.proofs.pieces.PatternLine.write.Goals as goal
+use Rattle.reports.proofs.pattern_line.PatternLine.write.Goals as goal
 
 pub returns : goal.returns
 returns c =
