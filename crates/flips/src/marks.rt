@@ -45,6 +45,7 @@ pub(crate) fn row<C: Code>(code: &C, v: Qubit, checks: &[u32]) -> Words
 }
 
 // For each check 1 where it is in the remaining syndrome, and 0 where it is not.
+// Place by place, here and below: that the parities are plain numbers in a scratch array is a rule of the project.
 pub(crate) fn read_parities(remaining: &[u8], checks: &[u32], parities: &mut [u32])
     requires { length checks.now ≤ length parities.old }
     ensures { take (length checks.now) parities.new ≡ map (λ u. one_if (member remaining.now u)) checks.now }

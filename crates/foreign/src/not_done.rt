@@ -25,6 +25,7 @@ impl From<Refusal> for NotDone {
     }
 }
 
+// By hand: a derived one says nothing of the case that it makes.
 impl From<AllocError> for NotDone {
     ghost from_gives = { λ _ r. r ≡ NoMemory };
 
