@@ -26,7 +26,9 @@ fn shifts_are_asked_in_order(rt: HostRuntime) {
         (6, &[0, 1, 2, 3, 4, 5], None),
     ];
     for (i, (count, shifts, number)) in cases.iter().enumerate() {
-        let refused = Cyclic::new(rt.alloc(), *count, *shifts).err().map(|refusal| refusal.number());
+        let refused = Cyclic::new(rt.alloc(), *count, *shifts)
+            .err()
+            .map(|refusal| refusal.number());
         assert_eq!(rt; refused, *number, "case {i}");
     }
 }

@@ -1,6 +1,6 @@
 // The code and the job that a script works on.
 use crate::calls::{Call, Refused, Told, accepted};
-use crate::hex::Hex;
+use crate::hexadecimal::Hex;
 use foreign::numbers::Asked;
 use foreign::{kotremwa_call, kotremwa_open};
 use std::alloc::Global;

@@ -2,7 +2,7 @@
 #![tactic(auto)]
 
 mod calls;
-mod hex;
+mod hexadecimal;
 mod job;
 mod script;
 

@@ -1,6 +1,6 @@
 // One line of a script, and what is printed of it.
 use crate::calls::{Call, Refused};
-use crate::hex::bytes_of;
+use crate::hexadecimal::bytes_of;
 use crate::job::{Part, Table};
 use anyhow::anyhow;
 use std::alloc::Global;
