@@ -19,7 +19,7 @@ pub(crate) struct Best {
 }
 
 impl<'a, C: Code> Opened<'a, C> {
-    // For each qubit the places of its checks among `checks`.
+    // For each qubit the places of its checks among `checks`, a slice of the scratch array: so few and apart stay required.
     fn rows(&self, checks: &[u32]) -> ArrayVec<Words, 12>
         requires checks_len_bound { length checks.now ≤ 144 }
         requires apart { Apart checks.now }
@@ -33,6 +33,7 @@ impl<'a, C: Code> Opened<'a, C> {
     }
 
     // The best set of the qubits; there is always one.
+    // What the syndrome is stays required: it is a slice of the caller's, and a struct around it would be made for this one call.
     pub(crate) fn best(&self, remaining: &[u8]) -> Option<Best>
         requires fits { fitting (C.layout self.now.code.now).checks remaining.now ≡ true }
         requires unused_zero { tidy (C.layout self.now.code.now).checks remaining.now ≡ true }

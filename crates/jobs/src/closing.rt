@@ -29,6 +29,7 @@ pub(crate) struct Cursors {
 
 impl Cursors {
     // The cursors after the step. Closing a qubit can make only its own checks dangling, and no generator wholly open.
+    // That its qubit is one of the code stays required: a step that keeps it would hold the code too.
     fn after<C: Code>(self, code: &C, step: Closing) -> Cursors
         requires { shut_by step < (C.layout code.now).qubits }
         ensures { result ≡ cursors_after (C.layout code.now) self step }

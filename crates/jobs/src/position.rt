@@ -23,6 +23,7 @@ impl<'a, 'b, C: Code> Position<'a, 'b, C> {
     ghost use Rattle.jobs.specs.Closings.{OpenAt};
 
     // The check with its open qubit, if it is dangling.
+    // That the check is one of the code stays required: a range gives one that is, and a number that keeps it would hold the code too.
     fn as_dangling(&self, u: Check) -> Option<(Check, Qubit)>
         requires { u.0 < (C.layout self.now.code.now).checks }
         ensures value { is_some result ≡ dangling (C.layout self.now.code.now) (model self.now.job.now) u.0 }
@@ -42,7 +43,7 @@ impl<'a, 'b, C: Code> Position<'a, 'b, C> {
         (from..self.code.checks()).find_map(|u| self.as_dangling(Check(u)))
     }
 
-    // That the generator is one of the code stays required, here and below: a range gives one that is, and a number that keeps it would hold the code too.
+    // That the generator is one of the code stays required, here and below, for the same reason.
     // Whether the generator has qubits, and all are open.
     fn is_wholly_open(&self, g: Generator) -> bool
         requires { g.0 < (C.layout self.now.code.now).generators }

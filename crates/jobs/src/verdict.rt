@@ -25,6 +25,7 @@ fn has_some(bits: &[u8], count: u32) -> bool
 
 impl<'a, 'b, C: Code> Position<'a, 'b, C> {
     // Whether the check is in the remaining syndrome, and none of its qubits is open.
+    // That it is one of the code stays required: a range gives one that is, and a number that keeps it would hold the code too.
     fn is_unmet(&self, u: Check) -> bool
         requires { u.0 < (C.layout self.now.code.now).checks }
         ensures { result ≡ unmet (C.layout self.now.code.now) (model self.now.job.now) u.0 }

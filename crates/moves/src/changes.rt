@@ -11,6 +11,7 @@ use matrices::families::Neighbours;
 use patterns::items::toggle;
 
 // Changes every check of qubit v, which is one of the code: a number that keeps it would hold the code too, for one call.
+// That the syndrome has its length stays required, here and below: it is a slice of the caller's, and a struct around it would be made for one call.
 pub(crate) fn toggle_checks<C: Code>(code: &C, remaining: &mut [u8], v: Qubit)
     requires v_bound { v.0 < (C.layout code.now).qubits }
     requires fits { fitting (C.layout code.now).checks remaining.old ≡ true }
@@ -30,7 +31,7 @@ pub(crate) fn toggle_all(bits: &mut [u8], items: &[u32])
     }
 }
 
-// Changes every check that holds an odd number of the qubits.
+// Changes every check that holds an odd number of the qubits, which are numbers of the code for the same reason.
 pub(crate) fn toggle_syndrome<C: Code>(code: &C, remaining: &mut [u8], qubits: &[u32])
     requires fits { fitting (C.layout code.now).checks remaining.old ≡ true }
     requires in_range { All (λ v. v < (C.layout code.now).qubits) qubits.now }

@@ -7,6 +7,7 @@ use std::alloc::Global;
 use std::fmt;
 
 // A code by its kind and bytes, and a job by its three patterns and its count of moves.
+// The kind is a number, 0 where a script names none: that is what the calls are handed, and they ask whether it is one.
 #[derive(Drop)]
 pub(crate) struct Table {
     heap: Global,
