@@ -14,7 +14,7 @@ use reports::report::Report;
 use reports::writing::write_report;
 use std::alloc::Global;
 
-// Writes the report of a job after a run.
+// Writes the report of a job after a run. The code and the job stay two parameters, here and below, as the calls on a job take them.
 fn report<C: Code>(code: &C, job: &Job, ran: Run, out: &mut [u8]) -> Result<usize, Refusal>
     ensures value { result ≡ report_answer (told_of C.symbol (C.layout code.now) ran (model job.now)) out.old }
     ensures after { out.new ≡ report_output (told_of C.symbol (C.layout code.now) ran (model job.now)) out.old }

@@ -35,7 +35,7 @@ pub(crate) enum Answer {
 }
 
 impl Call {
-    // Makes the call.
+    // Makes the call. The code and the job stay two parameters, here and below, as the calls on a job take them.
     fn make<C: Code>(self, code: &C, job: &mut Job) -> Result<Answer, Refusal>
         ensures { (answered result, model job.new) ≡ call (C.layout code.now) (model job.old) (meant self) }
     {

@@ -31,6 +31,7 @@ pub(crate) enum ToldCode {
     Written(Written),
 }
 
+// The job and the task stay two parameters, here and below: the task is what is done to the job.
 fn on_graph<G: Graph + Drop>(shape: Shape, graph: G, job: &mut Job, task: Task<'_>) -> Numbers
     ensures { (result, model job.new) ≡ done (shaped shape (G.tanner graph)) (model job.old) task.entry }
 {

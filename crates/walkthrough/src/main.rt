@@ -26,6 +26,7 @@ fn print_items(rt: &HostRuntime, name: &str, bits: &[u8], count: u32) -> io::Res
     println!(rt; "")
 }
 
+// The output, the code and the job stay three parameters, here and below: a struct that holds the job's `&mut` would be made for this one example.
 fn print_job<C: Code>(rt: &HostRuntime, code: &C, job: &Job) -> io::Result<()> {
     print_items(rt, "  remaining", job.remaining, code.checks())?;
     print_items(rt, "  open", job.opened, code.qubits())?;
