@@ -3,3 +3,7 @@
 
 #[cfg(test)]
 mod decoding_trials;
+#[cfg(test)]
+mod input_trials;
+#[cfg(test)]
+mod refusal_trials;
