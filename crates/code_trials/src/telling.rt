@@ -74,7 +74,6 @@ fn overlaps_are_even<C: Code>(rt: &impl Abort, code: &C) {
 }
 
 pub(crate) fn tells<C: Code>(rt: &impl Abort, code: &C, expected: Holds<'_>) -> Result<(), Fail> {
-    assert_eq!(rt; code.kind_letter(), expected.letter);
     assert_eq!(rt; C::LETTER, expected.letter);
     assert_eq!(rt; code.qubits(), expected.qubits);
     rows_tell(rt, Checks { code }, ByCheck { code }, expected.checks)?;

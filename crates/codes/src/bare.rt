@@ -5,25 +5,19 @@ ghost use Rattle.codes.specs.Sounds.{sound_bare};
 use crate::code::{Check, Code, Generator, Qubit};
 use graphs::graph::{CheckNode, Graph, VariableNode};
 
-const BARE_LETTER: u8 = b'B';
-
 #[derive(Drop)]
 pub struct Bare<G> {
     pub graph: G,
 }
 
 impl<G: Graph> Code for Bare<G> {
-    const LETTER: u8 = BARE_LETTER;
+    const LETTER: u8 = b'B';
 
     ghost layout = { λ x. bare (G.Graph.tanner x.graph) };
 
-    ghost symbol = { 66 };
+    ghost LETTER = { 66 };
 
     ghost sound = { λ c. sound_bare (G.Graph.tanner c.graph) (G.Graph.wired c.graph) };
-
-    fn kind_letter(&self) -> u8 {
-        BARE_LETTER
-    }
 
     fn qubits(&self) -> u32 {
         self.graph.variables()

@@ -23,11 +23,8 @@ pub trait Code {
 
     ghost layout: { Self → Layout };
 
-    ghost symbol: { ℕ };
-
-    // The kind's letter.
-    fn kind_letter(&self) -> u8
-        ensures { result ≡ symbol };
+    // What the constant of its name is.
+    ghost LETTER: { ℕ };
 
     fn qubits(&self) -> u32
         ensures { result ≡ (layout self.now).qubits };

@@ -5,19 +5,17 @@ ghost use Rattle.patterns.proofs.Lists.{parity_swap};
 
 use crate::code::{Check, Code, Generator, Qubit};
 
-const EXCHANGED_LETTER: u8 = b'E';
-
 #[derive(Drop)]
 pub struct Exchanged<C> {
     pub code: C,
 }
 
 impl<C: Code> Code for Exchanged<C> {
-    const LETTER: u8 = EXCHANGED_LETTER;
+    const LETTER: u8 = b'E';
 
     ghost layout = { λ x. exchanged (C.Code.layout x.code) };
 
-    ghost symbol = { 69 };
+    ghost LETTER = { 69 };
 
     ghost sound = { λ c.
         let inner = C.Code.sound c.code in
@@ -31,10 +29,6 @@ impl<C: Code> Code for Exchanged<C> {
           by_generator = inner.by_check;
           even = λ u k hu hk. parity_swap (l.of_check k) (l.of_generator u) (inner.by_check.row_apart k hk) (inner.by_generator.row_apart u hu) ∙ inner.even k u hk hu;
         } };
-
-    fn kind_letter(&self) -> u8 {
-        EXCHANGED_LETTER
-    }
 
     fn qubits(&self) -> u32 {
         self.code.qubits()

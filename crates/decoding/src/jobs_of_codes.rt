@@ -16,8 +16,8 @@ use std::alloc::Global;
 
 // Writes the report of a job after a run. The code and the job stay two parameters, here and below, as the calls on a job take them.
 fn report<C: Code>(code: &C, job: &Job, ran: Run, out: &mut [u8]) -> Result<usize, Refusal>
-    ensures value { result ≡ report_answer (told_of C.symbol (C.layout code.now) ran (model job.now)) out.old }
-    ensures after { out.new ≡ report_output (told_of C.symbol (C.layout code.now) ran (model job.now)) out.old }
+    ensures value { result ≡ report_answer (told_of C.LETTER (C.layout code.now) ran (model job.now)) out.old }
+    ensures after { out.new ≡ report_output (told_of C.LETTER (C.layout code.now) ran (model job.now)) out.old }
 {
     let report = Report {
         verdict: ran.verdict,
@@ -39,8 +39,8 @@ fn work<C: Code>(
     erasure: &[u8],
     out: &mut [u8],
 ) -> Result<usize, Refusal>
-    ensures value { result ≡ decoded_answer C.symbol (C.layout code.now) (decoded (C.layout code.now) (model job.old) syndrome.now erasure.now) out.old }
-    ensures after { out.new ≡ decoded_output C.symbol (C.layout code.now) (decoded (C.layout code.now) (model job.old) syndrome.now erasure.now) out.old }
+    ensures value { result ≡ decoded_answer C.LETTER (C.layout code.now) (decoded (C.layout code.now) (model job.old) syndrome.now erasure.now) out.old }
+    ensures after { out.new ≡ decoded_output C.LETTER (C.layout code.now) (decoded (C.layout code.now) (model job.old) syndrome.now erasure.now) out.old }
 {
     job.open(code, syndrome, erasure)?;
     let ran = run(code, job)?;
@@ -56,9 +56,9 @@ pub fn decode<C: Code>(
     out: &mut [u8],
 ) -> Result<usize, Refusal>
     ensures value { UnlessNoMemory result out.old out.new
-        (decoded_answer C.symbol (C.layout code.now) (decoded (C.layout code.now) (blank (C.layout code.now)) syndrome.now erasure.now) out.old)
-        (decoded_output C.symbol (C.layout code.now) (decoded (C.layout code.now) (blank (C.layout code.now)) syndrome.now erasure.now) out.old) }
-    ensures well_formed { WellFormedDecode C.symbol (C.layout code.now) }
+        (decoded_answer C.LETTER (C.layout code.now) (decoded (C.layout code.now) (blank (C.layout code.now)) syndrome.now erasure.now) out.old)
+        (decoded_output C.LETTER (C.layout code.now) (decoded (C.layout code.now) (blank (C.layout code.now)) syndrome.now erasure.now) out.old) }
+    ensures well_formed { WellFormedDecode C.LETTER (C.layout code.now) }
 {
     let checks = width(code.checks());
     let qubits = width(code.qubits());

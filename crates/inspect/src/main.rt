@@ -54,7 +54,7 @@ fn print_graph<G: Graph>(rt: &HostRuntime, graph: &G) -> io::Result<()> {
 }
 
 fn print_code<C: Code>(rt: &HostRuntime, code: &C) -> io::Result<()> {
-    let letter = char::from(code.kind_letter());
+    let letter = char::from(C::LETTER);
     let qubits = code.qubits();
     let checks = code.checks();
     let generators = code.generators();

@@ -8,8 +8,6 @@ use codes::code::{Check, Code, Generator, Qubit};
 use graphs::graph::Graph;
 use matrices::families::Family;
 
-const PRODUCT_LETTER: u8 = b'P';
-
 #[derive(Drop)]
 pub struct Product<G> {
     pub graph: G,
@@ -26,20 +24,16 @@ impl<G: Graph> Product<G> {
 }
 
 impl<G: Graph> Code for Product<G> {
-    const LETTER: u8 = PRODUCT_LETTER;
+    const LETTER: u8 = b'P';
 
     ghost layout = { λ x. product_of (G.Graph.tanner x.graph) (G.Graph.tanner x.graph) };
 
-    ghost symbol = { 80 };
+    ghost LETTER = { 80 };
 
     ghost sound = { λ c.
         let t = G.Graph.tanner c.graph in
         let w = G.Graph.wired c.graph in
         sound_product t t w w };
-
-    fn kind_letter(&self) -> u8 {
-        PRODUCT_LETTER
-    }
 
     fn qubits(&self) -> u32 {
         Pairs(&self.graph, &self.graph).by_check().count()

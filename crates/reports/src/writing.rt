@@ -18,7 +18,7 @@ const MOST_SHORT: usize = 128;
 
 // Asks both patterns for their length and for their unused bits.
 fn ask<C: Code>(code: &C, report: Report<'_>) -> Result<(), Refusal>
-    ensures { result ≡ answer (first_no (report_questions (told C.symbol (C.layout code.now) report.entry))) }
+    ensures { result ≡ answer (first_no (report_questions (told C.LETTER (C.layout code.now) report.entry))) }
 {
     let qubits = code.qubits();
     if !fits(report.correction, qubits) || !fits(report.opened, qubits) {
@@ -32,11 +32,11 @@ fn ask<C: Code>(code: &C, report: Report<'_>) -> Result<(), Refusal>
 
 // The lines `code`, `verdict` and `moves`.
 fn short_lines<C: Code>(code: &C, report: Report<'_>) -> ArrayVec<u8, MOST_SHORT>
-    ensures { result.items ≡ short_lines (told C.symbol (C.layout code.now) report.entry) }
+    ensures { result.items ≡ short_lines (told C.LETTER (C.layout code.now) report.entry) }
 {
     let mut lines = ArrayVec::new();
     put("code ", &mut lines);
-    lines.push(code.kind_letter());
+    lines.push(C::LETTER);
     put_counts(code.qubits(), code.checks(), code.generators(), &mut lines);
     put("verdict ", &mut lines);
     put(report.verdict.word(), &mut lines);
@@ -61,8 +61,8 @@ fn fill(short: &[u8], fix: PatternLine<'_>, opened: PatternLine<'_>, out: &mut [
 fn write_lines<C: Code>(code: &C, report: Report<'_>, out: &mut [u8]) -> Result<usize, Refusal>
     requires correction_len_bound { length report.correction.now < 2 ^ 32 }
     requires opened_len_bound { length report.opened.now < 2 ^ 32 }
-    ensures value { result ≡ answered (report_of (told C.symbol (C.layout code.now) report.entry)) out.old }
-    ensures after { out.new ≡ written (report_of (told C.symbol (C.layout code.now) report.entry)) out.old }
+    ensures value { result ≡ answered (report_of (told C.LETTER (C.layout code.now) report.entry)) out.old }
+    ensures after { out.new ≡ written (report_of (told C.LETTER (C.layout code.now) report.entry)) out.old }
 {
     let short = short_lines(code, report);
     let fix = PatternLine {
@@ -83,8 +83,8 @@ fn write_lines<C: Code>(code: &C, report: Report<'_>, out: &mut [u8]) -> Result<
 
 // Writes the five lines at the front of `out`; answers how many bytes it wrote. Two reports of the same bytes tell the same.
 pub fn write_report<C: Code>(code: &C, report: Report<'_>, out: &mut [u8]) -> Result<usize, Refusal>
-    ensures value { result ≡ report_answer (told C.symbol (C.layout code.now) report.entry) out.old }
-    ensures after { out.new ≡ report_output (told C.symbol (C.layout code.now) report.entry) out.old }
+    ensures value { result ≡ report_answer (told C.LETTER (C.layout code.now) report.entry) out.old }
+    ensures after { out.new ≡ report_output (told C.LETTER (C.layout code.now) report.entry) out.old }
     ensures reads_back { ReportDetermines }
 {
     ask(code, report)?;

@@ -33,15 +33,11 @@ impl<C: Code> Code for Tabled<C> {
 
     ghost layout = { λ x. layout_of x.tables (C.Code.layout x.code) };
 
-    ghost symbol = { C.Code.symbol };
+    ghost LETTER = { C.Code.LETTER };
 
     ghost sound = { λ x.
         let rest = C.Code.layout x.code in
         ∥∥₁_elim (x.tables.sound rest) (sound_prop (layout_of x.tables rest)) (λ s. s) };
-
-    fn kind_letter(&self) -> u8 {
-        self.code.kind_letter()
-    }
 
     fn qubits(&self) -> u32 {
         self.tables.by_check.count()

@@ -9,8 +9,6 @@ use codes::limits::MOST_WEIGHT;
 use matrices::families::Family;
 use matrices::sparse::Sparse;
 
-const WRITTEN_LETTER: u8 = b'W';
-
 // The qubits are the columns of both, the checks and the generators the rows.
 #[derive(Drop)]
 pub struct Written {
@@ -24,14 +22,14 @@ pub struct Written {
 }
 
 impl Code for Written {
-    const LETTER: u8 = WRITTEN_LETTER;
+    const LETTER: u8 = b'W';
 
     ghost layout = { λ w.
         let c = w.checks.relation in
         let g = w.generators.relation in
         listed_code (lists c.rows.nodes) (lists c.columns.nodes) (lists g.rows.nodes) (lists g.columns.nodes) };
 
-    ghost symbol = { 87 };
+    ghost LETTER = { 87 };
 
     ghost sound = { λ w.
         let c = w.checks.relation in
@@ -40,10 +38,6 @@ impl Code for Written {
         c.by_row c.by_column g.by_row g.by_column
         w.same_qubits w.qubits_in_range w.checks_in_range w.generators_in_range
         w.checks.few_in_rows w.checks.few_in_columns w.generators.few_in_rows w.generators.few_in_columns w.even };
-
-    fn kind_letter(&self) -> u8 {
-        WRITTEN_LETTER
-    }
 
     fn qubits(&self) -> u32 {
         self.checks.relation.columns.count()
