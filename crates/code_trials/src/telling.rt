@@ -1,6 +1,7 @@
 // Whether a code tells just the checks and the generators that are expected of it, from both sides.
 use codes::code::Code;
 use codes::families::{ByCheck, ByGenerator, Checks, Generators};
+use codes::limits::MOST_WEIGHT;
 use matrices::families::{Family, Neighbours};
 use std::process::Abort;
 use std::test::Fail;
@@ -14,9 +15,11 @@ pub struct Holds<'a> {
     pub generators: &'a [&'a [u32]],
 }
 
-// How often node u tells the neighbour v.
-fn times_told<F: Family + Copy>(family: F, u: u32, v: u32) -> usize {
-    Neighbours::of(family, u).filter(|w| *w == v).count()
+// How often node u tells the neighbour v at all places that there may be, also past one that tells none, and how often by the iterator.
+fn times_told<F: Family + Copy>(family: F, u: u32, v: u32) -> [usize; 2] {
+    let places = (0..MOST_WEIGHT).filter(|k| family.neighbour(u, *k) == Some(v));
+    let walked = Neighbours::of(family, u).filter(|w| *w == v);
+    [places.count(), walked.count()]
 }
 
 // Nothing is told of nodes that there are not, nor past the last neighbour of a node.
@@ -46,8 +49,8 @@ fn rows_tell<R: Family + Copy, B: Family + Copy>(
         assert_eq!(rt; told as usize, row.len(), "{u}");
         for v in 0..back.count() {
             let times = usize::from(row.contains(&v));
-            assert_eq!(rt; times_told(rows, u, v), times, "{u} and {v}");
-            assert_eq!(rt; times_told(back, v, u), times, "{v} and {u}");
+            assert_eq!(rt; times_told(rows, u, v), [times; 2], "{u} and {v}");
+            assert_eq!(rt; times_told(back, v, u), [times; 2], "{v} and {u}");
         }
     }
     for v in 0..back.count() {

@@ -5,7 +5,10 @@ ghost use Rattle.moves.specs.Jobs.{pattern_questions};
 ghost use Rattle.moves.specs.Held.{model};
 
 use codes::code::{Check, Code, Generator, Qubit};
+use flips::finding::best_flip;
 use moves::job::Job;
+use scans::checks::only_one;
+use scans::generators::all_held;
 
 // A code and a job on it, whose patterns are well formed.
 #[derive(Drop)]
@@ -30,7 +33,7 @@ impl<'a, 'b, C: Code> Position<'a, 'b, C> {
         ensures check { IfSome result (λ p. p.0.0 ≡ u.0) }
         ensures qubit { OpenAt (C.layout self.now.code.now) (model self.now.job.now) result }
     {
-        let v = self.job.only_open(self.code, u)?;
+        let v = only_one(self.code, self.job.opened, u)?;
         Some((u, v))
     }
 
@@ -49,7 +52,7 @@ impl<'a, 'b, C: Code> Position<'a, 'b, C> {
         requires { g.0 < (C.layout self.now.code.now).generators }
         ensures { result ≡ wholly_open (C.layout self.now.code.now) (model self.now.job.now) g.0 }
     {
-        self.code.generator_qubit(g, 0).is_some() && self.job.all_open(self.code, g)
+        self.code.generator_qubit(g, 0).is_some() && all_held(self.code, self.job.opened, g)
     }
 
     // The lowest generator that has qubits, all of them open; there is none below `from`.
@@ -67,7 +70,7 @@ impl<'a, 'b, C: Code> Position<'a, 'b, C> {
         requires { g.0 < (C.layout self.now.code.now).generators }
         ensures { result ≡ lowerable (C.layout self.now.code.now) (model self.now.job.now) g.0 }
     {
-        self.job.best_flip(self.code, g).is_some()
+        best_flip(self.code, self.job.remaining, self.job.opened, g).is_some()
     }
 
     // The lowest generator that has a set lowering the weight.

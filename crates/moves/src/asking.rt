@@ -53,21 +53,21 @@ impl<'a> Job<'a> {
     }
 
     // The one open qubit of the check, if there is just one.
-    pub fn only_open<C: Code>(&self, code: &C, u: Check) -> Option<Qubit>
+    pub(crate) fn only_open<C: Code>(&self, code: &C, u: Check) -> Option<Qubit>
         ensures { option_map (λ v. v.0) result ≡ only_one (C.layout code.now) (member (model self.now).opened) u.0 }
     {
         only_one(code, self.opened, u)
     }
 
     // Whether all qubits of the generator are open.
-    pub fn all_open<C: Code>(&self, code: &C, g: Generator) -> bool
+    pub(crate) fn all_open<C: Code>(&self, code: &C, g: Generator) -> bool
         ensures { result ≡ all_held (C.layout code.now) (member (model self.now).opened) g.0 }
     {
         all_held(code, self.opened, g)
     }
 
     // The best set of the generator's open qubits, if it lowers the weight of the remaining syndrome.
-    pub fn best_flip<C: Code>(&self, code: &C, g: Generator) -> Option<Flip>
+    pub(crate) fn best_flip<C: Code>(&self, code: &C, g: Generator) -> Option<Flip>
         ensures { option_map told result ≡ best_flip (C.layout code.now) (model self.now).remaining (model self.now).opened g.0 }
     {
         best_flip(code, self.remaining, self.opened, g)

@@ -2,7 +2,7 @@
 ghost use Rattle.std.specs.Prelude.{◌≡◌, ◌+◌, min};
 ghost use Rattle.moves.specs.Jobs.{most_moves};
 
-// The caller lends the patterns, and others may write to them between calls: so every move, run and verdict asks again whether they are patterns.
+// The caller lends the patterns, and others may write to them between calls: so every call asks again whether they are patterns.
 #[derive(Drop)]
 pub struct Job<'a> {
     pub remaining: &'a mut [u8],

@@ -1,6 +1,6 @@
 // Patterns and codes as hexadecimal text; a dash stands for no bytes.
 use anyhow::anyhow;
-use std::alloc::Global;
+use std::alloc::{AllocError, Global};
 use std::fmt;
 
 // The bytes that two capital digits each tell.
@@ -18,7 +18,8 @@ pub(crate) fn bytes_of(heap: Global, text: &str) -> anyhow::Result<Vec<u8>> {
     if text.len() % 2 != 0 {
         return Err(anyhow!("a byte has two digits"));
     }
-    Ok(hex::decode(heap, text)?)
+    // The digits are right and in pairs, so that only memory can be wanting.
+    Ok(hex::decode(heap, text).map_err(|_e| AllocError)?)
 }
 
 // Bytes that are printed so.

@@ -34,7 +34,7 @@ fn print_job<C: Code>(rt: &HostRuntime, code: &C, job: &Job) -> io::Result<()> {
 }
 
 fn peel<C: Code>(rt: &HostRuntime, code: &C, job: &mut Job, u: Check) -> anyhow::Result<()> {
-    let (v, changed) = job.peel(code, u).context("the peel was refused")?;
+    let (v, changed) = job.peel(code, u).ok().context("the peel was refused")?;
     let check = u.0;
     let qubit = v.0;
     println!(rt; "peel check {check}: qubit {qubit}, changed {changed}")?;
@@ -49,7 +49,7 @@ fn prune<C: Code>(
     g: Generator,
     v: Qubit,
 ) -> anyhow::Result<()> {
-    job.prune(code, g, v).context("the prune was refused")?;
+    job.prune(code, g, v).ok().context("the prune was refused")?;
     let generator = g.0;
     let qubit = v.0;
     println!(rt; "prune generator {generator}: qubit {qubit}")?;
@@ -68,6 +68,7 @@ fn decode<C: Code>(rt: &HostRuntime, code: &C) -> anyhow::Result<()> {
         moves: 0,
     };
     job.open(code, &SYNDROME, &ERASURE)
+        .ok()
         .context("the opening was refused")?;
     println!(rt; "open")?;
     print_job(rt, code, &job)?;
@@ -80,7 +81,9 @@ fn decode<C: Code>(rt: &HostRuntime, code: &C) -> anyhow::Result<()> {
 }
 
 fn run(rt: &HostRuntime) -> anyhow::Result<()> {
-    let graph = read_graph(rt.alloc(), &GRAPH).context("the graph was refused")?;
+    let graph = read_graph(rt.alloc(), &GRAPH)
+        .ok()
+        .context("the graph was refused")?;
     decode(rt, &Product::of(graph))
 }
 
