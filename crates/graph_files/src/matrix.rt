@@ -7,7 +7,6 @@ ghost use Rattle.graph_files.specs.Built.{wired_listed};
 
 use graphs::graph::{CheckNode, Graph, VariableNode};
 use graphs::limits::MOST_NEIGHBOURS;
-use matrices::families::Family;
 use matrices::sparse::Sparse;
 
 // The checks are the rows of the edges, the variables their columns.
@@ -26,19 +25,19 @@ impl Graph for Matrix {
         wired_listed (lists r.rows.nodes) (lists r.columns.nodes) r.by_row r.by_column g.checks_in_range g.variables_in_range g.edges.few_in_rows g.edges.few_in_columns };
 
     fn variables(&self) -> u32 {
-        self.edges.relation.columns.count()
+        self.edges.relation.columns.count() as u32
     }
 
     fn checks(&self) -> u32 {
-        self.edges.relation.rows.count()
+        self.edges.relation.rows.count() as u32
     }
 
     fn variable_degree(&self, v: VariableNode) -> Option<u32> {
-        self.edges.relation.columns.size(v.0)
+        self.edges.column_size(v.0)
     }
 
     fn check_degree(&self, p: CheckNode) -> Option<u32> {
-        self.edges.relation.rows.size(p.0)
+        self.edges.row_size(p.0)
     }
 
     fn variable_neighbour(&self, v: VariableNode, k: u32) -> Option<CheckNode> {

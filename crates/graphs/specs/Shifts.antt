@@ -8,7 +8,7 @@ use Rattle.std.proofs.lemmas.Option.{slice_get-map}
 use Rattle.std.proofs.lemmas.Bool.{and_parts, or_cases, eqb-true, leb-true, ltb-true, lt-ltb, cond-true, cases_Bool, both_ways}
 use Rattle.patterns.specs.Sets.{has, Apart}
 use Rattle.patterns.proofs.Lists.{has_map_from, has_map_same, apart_map}
-use Rattle.matrices.specs.Relations.{Paired, neighbour}
+use Rattle.matrices.specs.Relations.{Paired, size_at, neighbour}
 use Rattle.matrices.proofs.Lookups.{nth_has}
 use Rattle.graphs.specs.Tanners.{Wired, counted, most_nodes, most_neighbours}
 use Rattle.graphs.specs.Cycles.{rising_from, rising, shift_count, cyclic}
@@ -74,6 +74,9 @@ wired_cyclic n ss count shifts rises =
 -- ---- what a mapped list answers
 
 module _ (n : ℕ) (f : ℕ → ℕ → ℕ) (ss : List ℕ) (u : ℕ) (here : u < n) where
+  pub size_mapped : Some (length ss) ≡ size_at n (λ u. map (f u) ss) u
+  size_mapped = ap Some (sym (length-map ss (f u))) ∙ sym (cond-true (nat_lt u n) (Some (length (map (f u) ss))) None (lt-ltb u n here))
+
   at_node : (k : ℕ) → neighbour n (λ u. map (f u) ss) u k ≡ option_map (f u) (slice_get ss k)
   at_node k = cond-true (nat_lt u n) (slice_get (map (f u) ss) k) None (lt-ltb u n here) ∙ slice_get-map (f u) ss k
 

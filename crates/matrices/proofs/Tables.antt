@@ -1,5 +1,5 @@
 -- Lists made from a test, and relations that each side tells of the other. Assumes nothing.
-use Rattle.std.proofs.Common.{◌≡◌, ℕ, zero, suc, ◌+◌, ◌<◌, true, ◌&&◌, ltb, leb, List, [], ◌∷◌, map, length, Some, None, sym, refl, ap, ◌∙◌, subst, ap₂, ⊎_elim, arith}
+use Rattle.std.proofs.Common.{◌≡◌, ℕ, zero, suc, ◌+◌, ◌<◌, ◌≤◌, true, ◌&&◌, ltb, leb, List, [], ◌∷◌, map, length, Some, None, sym, refl, ap, ◌∙◌, subst, ap₂, ⊎_elim, arith}
 use Rattle.std.specs.List.{range_with_len}
 use Rattle.std.proofs.lemmas.List.FromFn.{length-map-range_with_len, get_or-map-range_with_len}
 use Rattle.std.proofs.lemmas.Bool.{lt-ltb, leb-true, ltb-true, cond-true, cond-false, cases_Bool}
@@ -82,3 +82,9 @@ size_told m of_row u size e =
     (λ in'. let some : Some size ≡ Some (length (of_row u)) = e ∙ cond-true (ltb u m) (Some (length (of_row u))) None in' in (ltb-true u m in', cc some))
     (λ out. let none : Some size ≡ None = e ∙ cond-false (ltb u m) (Some (length (of_row u))) None out in let z : ◌≡◌ {A = ℕ} 0 1 = cc none in absurd (omega arith))
     (cases_Bool (ltb u m))
+
+pub size_short : (most : ℕ) (lists : List (List ℕ)) → short most lists ≡ true → (u size : ℕ) → Some size ≡ size_at (length lists) (listed lists) u → size ≤ most
+size_short most lists h u size e =
+    let told = size_told (length lists) (listed lists) u size e in
+    let few : length (listed lists u) ≤ most = leb-true (length (listed lists u)) most (all_below_at (length lists) (λ u. leb (length (listed lists u)) most) h u told.0) in
+    omega (arith, told.1)

@@ -26,8 +26,8 @@ impl Relation {
             × (lists x.columns.nodes ≡ tabled matrix.entry.columns matrix.entry.rows (turned_entry matrix.entry.columns matrix.entry.bytes.now)))
             (λ e. e ≡ OutOfMemory) }
     {
-        let rows = Lists::of(heap, &matrix)?;
-        let columns = Lists::of(heap, &BitColumns { matrix })?;
+        let rows = Lists::of(heap, &matrix, matrix.rows, matrix.columns)?;
+        let columns = Lists::of(heap, &BitColumns { matrix }, matrix.columns, matrix.rows)?;
         Ok(Relation { rows, columns })
     }
 }

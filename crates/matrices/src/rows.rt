@@ -6,21 +6,9 @@ ghost use Rattle.matrices.specs.Rows.{row, entry, turned_entry, just_rows, tidy_
 use patterns::items::contains;
 use patterns::shapes::{unused_are_zero, width};
 
-// What is joined to what: a relation between the first so many numbers, its rows, and the first so many others, its columns.
+// What is joined to what: a relation between numbers.
 pub trait Incidence {
-    ghost height: { Self → ℕ };
-
-    ghost breadth: { Self → ℕ };
-
     ghost joined: { Self → ℕ → Set };
-
-    // How many rows there are.
-    fn rows(&self) -> u32
-        ensures { result ≡ height self.now };
-
-    // How many columns there are.
-    fn columns(&self) -> u32
-        ensures { result ≡ breadth self.now };
 
     fn joins(&self, a: u32, b: u32) -> bool
         ensures { result ≡ joined self.now a b };
@@ -63,25 +51,14 @@ impl<'a> BitRows<'a> {
     pub fn is_sparse(&self, most: u32) -> bool
         ensures { result ≡ sparse most self.now.rows self.now.columns self.now.bytes.now }
     {
-        joined_to_few(self, most) && joined_to_few(&BitColumns { matrix: *self }, most)
+        joined_to_few(self, self.rows, self.columns, most)
+            && joined_to_few(&BitColumns { matrix: *self }, self.columns, self.rows, most)
     }
 }
 
 // The rows of the matrix: which columns each has.
 impl<'a> Incidence for BitRows<'a> {
-    ghost height = { λ m. m.rows };
-
-    ghost breadth = { λ m. m.columns };
-
     ghost joined = { λ m. entry m.columns m.bytes.now };
-
-    fn rows(&self) -> u32 {
-        self.rows
-    }
-
-    fn columns(&self) -> u32 {
-        self.columns
-    }
 
     fn joins(&self, a: u32, b: u32) -> bool {
         contains(self.row(a), b)
@@ -95,35 +72,23 @@ pub struct BitColumns<'a> {
 }
 
 impl<'a> Incidence for BitColumns<'a> {
-    ghost height = { λ m. m.matrix.columns };
-
-    ghost breadth = { λ m. m.matrix.rows };
-
     ghost joined = { λ m. turned_entry m.matrix.columns m.matrix.bytes.now };
-
-    fn rows(&self) -> u32 {
-        self.matrix.columns
-    }
-
-    fn columns(&self) -> u32 {
-        self.matrix.rows
-    }
 
     fn joins(&self, a: u32, b: u32) -> bool {
         contains(self.matrix.row(b), a)
     }
 }
 
-// How many columns are joined to `a`.
-pub fn count_joined<M: Incidence>(m: &M, a: u32) -> usize
-    ensures { result ≡ tally (M.breadth m.now) (M.joined m.now a) }
+// How many of the first `columns` numbers are joined to `a`.
+pub fn count_joined<M: Incidence>(m: &M, a: u32, columns: u32) -> u32
+    ensures { result ≡ tally columns (M.joined m.now a) }
 {
-    (0..m.columns()).filter(|b| m.joins(a, *b)).count()
+    (0..columns).filter(|b| m.joins(a, *b)).count() as u32
 }
 
-// Whether each row is joined to at most `most` columns.
-pub fn joined_to_few<M: Incidence>(m: &M, most: u32) -> bool
-    ensures { result ≡ few most (M.height m.now) (M.breadth m.now) (M.joined m.now) }
+// Whether each of the first `rows` numbers is joined to at most `most` of the first `columns`.
+pub fn joined_to_few<M: Incidence>(m: &M, rows: u32, columns: u32, most: u32) -> bool
+    ensures { result ≡ few most rows columns (M.joined m.now) }
 {
-    (0..m.rows()).all(|a| count_joined(m, a) <= most as usize)
+    (0..rows).all(|a| count_joined(m, a, columns) <= most)
 }

@@ -17,7 +17,7 @@ pub struct Table {
     ghost few: { length nodes.items ≤ most_qubits },
 }
 
-// The bodies are those of `Lists`, over rows of another type; a trait over both rows would be longer than what they share.
+// The bodies are those of `Lists` but for the casts, over rows of another type; a trait over both rows would be longer than what they share.
 impl Table {
     // How many nodes there are.
     pub(crate) fn count(&self) -> u32

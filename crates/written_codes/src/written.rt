@@ -6,7 +6,6 @@ ghost use Rattle.written_codes.specs.Builds.{sound_listed};
 
 use codes::code::{Check, Code, Generator, Qubit};
 use codes::limits::MOST_WEIGHT;
-use matrices::families::Family;
 use matrices::sparse::Sparse;
 
 // The qubits are the columns of both, the checks and the generators the rows.
@@ -40,31 +39,31 @@ impl Code for Written {
         w.checks.few_in_rows w.checks.few_in_columns w.generators.few_in_rows w.generators.few_in_columns w.even };
 
     fn qubits(&self) -> u32 {
-        self.checks.relation.columns.count()
+        self.checks.relation.columns.count() as u32
     }
 
     fn checks(&self) -> u32 {
-        self.checks.relation.rows.count()
+        self.checks.relation.rows.count() as u32
     }
 
     fn generators(&self) -> u32 {
-        self.generators.relation.rows.count()
+        self.generators.relation.rows.count() as u32
     }
 
     fn check_size(&self, u: Check) -> Option<u32> {
-        self.checks.relation.rows.size(u.0)
+        self.checks.row_size(u.0)
     }
 
     fn generator_size(&self, g: Generator) -> Option<u32> {
-        self.generators.relation.rows.size(g.0)
+        self.generators.row_size(g.0)
     }
 
     fn checks_of(&self, v: Qubit) -> Option<u32> {
-        self.checks.relation.columns.size(v.0)
+        self.checks.column_size(v.0)
     }
 
     fn generators_of(&self, v: Qubit) -> Option<u32> {
-        self.generators.relation.columns.size(v.0)
+        self.generators.column_size(v.0)
     }
 
     fn check_qubit(&self, u: Check, k: u32) -> Option<Qubit> {

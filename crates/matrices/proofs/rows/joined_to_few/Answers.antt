@@ -6,7 +6,7 @@ use Rattle.matrices.proofs.rows.joined_to_few.Goals as goal
 
 pub returns : goal.returns
 returns g c =
-    let m = g.M.Incidence.height c.args.m.now in
-    let few = λ (u : _). leb (tally (g.M.Incidence.breadth c.args.m.now) (g.M.Incidence.joined c.args.m.now u)) c.args.most in
+    let m = c.args.rows in
+    let few = λ (u : _). leb (tally c.args.columns (g.M.Incidence.joined c.args.m.now u)) c.args.most in
     all_from_yields_List few _ _ c.all.result c.all.ensures.ran (numbers_below m (cc)) (λ x b q k. search (rules, tests))
     ∙ list_all_below m few

@@ -1,7 +1,7 @@
 use Rattle.std.proofs.Common.{vec_items, ap, ◌∙◌}
 use Rattle.std.specs.List.{slice_get}
 use Rattle.matrices.proofs.Lookups.{got, neighbour_past, neighbour_here}
-use Rattle.matrices.proofs.lists.ListsFamily.neighbour.Goals as goal
+use Rattle.matrices.proofs.lists.Lists.neighbour.Goals as goal
 
 pub returns-in_err-list : goal.returns-in_err-list
 returns-in_err-list c =

@@ -1,6 +1,6 @@
 use Rattle.std.proofs.Common.{vec_items, sym, ◌∙◌}
 use Rattle.std.proofs.lemmas.List.{length-map}
-use Rattle.matrices.proofs.lists.ListsFamily.count.Goals as goal
+use Rattle.matrices.proofs.lists.Lists.count.Goals as goal
 
 pub returns : goal.returns
 returns c =
