@@ -33,7 +33,8 @@ impl<'a, 'b, C: Code> Position<'a, 'b, C> {
         ensures check { IfSome result (λ p. p.0.0 ≡ u.0) }
         ensures qubit { OpenAt (C.layout self.now.code.now) (model self.now.job.now) result }
     {
-        let v = only_one(self.code, self.job.opened, u)?;
+        let job = self.job;
+        let v = only_one(self.code, job.opened, u)?;
         Some((u, v))
     }
 
@@ -52,7 +53,8 @@ impl<'a, 'b, C: Code> Position<'a, 'b, C> {
         requires { g.0 < (C.layout self.now.code.now).generators }
         ensures { result ≡ wholly_open (C.layout self.now.code.now) (model self.now.job.now) g.0 }
     {
-        self.code.generator_qubit(g, 0).is_some() && all_held(self.code, self.job.opened, g)
+        let job = self.job;
+        self.code.generator_qubit(g, 0).is_some() && all_held(self.code, job.opened, g)
     }
 
     // The lowest generator that has qubits, all of them open; there is none below `from`.
@@ -70,7 +72,8 @@ impl<'a, 'b, C: Code> Position<'a, 'b, C> {
         requires { g.0 < (C.layout self.now.code.now).generators }
         ensures { result ≡ lowerable (C.layout self.now.code.now) (model self.now.job.now) g.0 }
     {
-        best_flip(self.code, self.job.remaining, self.job.opened, g).is_some()
+        let job = self.job;
+        best_flip(self.code, job.remaining, job.opened, g).is_some()
     }
 
     // The lowest generator that has a set lowering the weight.

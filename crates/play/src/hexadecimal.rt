@@ -1,25 +1,37 @@
 // Patterns and codes as hexadecimal text; a dash stands for no bytes.
 use anyhow::anyhow;
-use std::alloc::{AllocError, Global};
+use std::alloc::Global;
 use std::fmt;
+
+// The kit's `hex` takes small letters too and tells want of memory in words of its own, and the text would be gone over twice.
+fn value_of(digit: u8) -> Option<u8> {
+    match digit {
+        b'0'..=b'9' => Some(digit - b'0'),
+        b'A'..=b'F' => Some(digit - b'A' + 10),
+        _ => None,
+    }
+}
 
 // The bytes that two capital digits each tell.
 pub(crate) fn bytes_of(heap: Global, text: &str) -> anyhow::Result<Vec<u8>> {
+    let mut bytes = Vec::new(heap);
     if text == "-" {
-        return Ok(Vec::new(heap));
+        return Ok(bytes);
     }
-    // `decode` reads small letters too.
-    if !text
-        .bytes()
-        .all(|digit| matches!(digit, b'0'..=b'9' | b'A'..=b'F'))
-    {
-        return Err(anyhow!("a digit is not hexadecimal"));
+    for pair in text.as_bytes().chunks(2) {
+        let mut byte: u8 = 0;
+        for digit in pair {
+            let Some(value) = value_of(*digit) else {
+                return Err(anyhow!("a digit is not hexadecimal"));
+            };
+            byte = byte.wrapping_mul(16) | value;
+        }
+        if pair.len() < 2 {
+            return Err(anyhow!("a byte has two digits"));
+        }
+        bytes.push(byte)?;
     }
-    if text.len() % 2 != 0 {
-        return Err(anyhow!("a byte has two digits"));
-    }
-    // The digits are right and in pairs, so that only memory can be wanting.
-    Ok(hex::decode(heap, text).map_err(|_e| AllocError)?)
+    Ok(bytes)
 }
 
 // Bytes that are printed so.

@@ -1,29 +1,28 @@
 -- The parity of a set over the qubits of a check. Assumes nothing.
 use Rattle.std.proofs.Common.{◌≡◌, ℕ, ◌+◌, ◌%◌, ◌<◌, Bool, true, false, cond, not, eqb, ltb, ◌&&◌, zero, suc, List, [], ◌∷◌, length, filter, sym, refl, ap, ◌∙◌, ap₂, arith}
 use mathlib.Core.Bool.{beq}
-use Rattle.std.proofs.Math.Numerals.{add-one}
+use Rattle.std.specs.List.{fold}
 use Rattle.std.proofs.lemmas.Bool.{cond-true, lt-ltb}
-use Rattle.std.proofs.lemmas.Bool.Decides.{nat_tests}
 use Rattle.patterns.specs.Sets.{Set, ◌⊕◌, parity, all_below}
 use Rattle.matrices.specs.Relations.{neighbours}
 use Rattle.codes.specs.Layouts.{Layout}
 use Rattle.syndromes.specs.Syndromes.{syndrome_of}
 
-next_odd : (n : ℕ) → eqb ((n + 1) % 2) 1 ≡ not (eqb (n % 2) 1)
-next_odd n = grind (arith, nat_tests)
-
--- an odd number of the list's places hold an item of the set when an odd number pass
-pub odd_parity : (s : Set) (xs : List ℕ) → eqb (length (filter s xs) % 2) 1 ≡ parity s xs
-odd_parity s [] = refl
-odd_parity s (x ∷ xs) = at (s x) (odd_parity s xs)
+-- a turn at each place that holds an item of the set, from a flag, adds the parity to the flag
+pub parity_folded : (s : Set) (b : Bool) (xs : List ℕ) → fold (λ odd v. not (beq odd (s v))) b xs ≡ (b ⊕ parity s xs)
+parity_folded s true [] = refl
+parity_folded s false [] = refl
+parity_folded s b (x ∷ xs) = parity_folded s (not (beq b (s x))) xs ∙ turned b (s x) (parity s xs)
   where
-    turned : (p : Bool) → not p ≡ (true ⊕ p)
-    turned true = refl
-    turned false = refl
-
-    at : (b : Bool) → eqb (length (filter s xs) % 2) 1 ≡ parity s xs → eqb (length (cond b (x ∷ filter s xs) (filter s xs)) % 2) 1 ≡ (b ⊕ parity s xs)
-    at true e = ap (λ n. eqb (n % 2) 1) (sym (add-one (length (filter s xs)))) ∙ next_odd (length (filter s xs)) ∙ ap not e ∙ turned (parity s xs)
-    at false e = e
+    turned : (b c p : Bool) → (not (beq b c) ⊕ p) ≡ (b ⊕ (c ⊕ p))
+    turned true true true = refl
+    turned true true false = refl
+    turned true false true = refl
+    turned true false false = refl
+    turned false true true = refl
+    turned false true false = refl
+    turned false false true = refl
+    turned false false false = refl
 
 -- of a check that there is, this is its place in the syndrome
 pub odd_syndrome : (c : Layout) (s : Set) (u : ℕ) → u < c.checks → parity s (neighbours c.checks c.of_check u) ≡ syndrome_of c s u

@@ -20,7 +20,8 @@ fn is_odd<C: Code>(code: &C, u: Check, set: &[u8]) -> bool
     ensures { result ≡ parity (member set.now) (neighbours (C.layout code.now).checks (C.layout code.now).of_check u.0) }
 {
     let held = Neighbours::of(Checks { code }, u.0);
-    held.filter(|v| contains(set, *v)).count() % 2 == 1
+    // A flag that turns, and no count of what passes a filter: that asks for a jump at each qubit, and took three times as long on a code in tables.
+    held.fold(false, |odd, v| odd != contains(set, v))
 }
 
 // Fills `out` with the syndrome of the set.
