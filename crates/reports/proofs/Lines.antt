@@ -6,7 +6,7 @@ use Rattle.patterns.proofs.Hexing.{length_hexed}
 use Rattle.reports.specs.Texts.{line}
 use Rattle.reports.specs.Reports.{Told, short_lines, pattern_lines, fix_line, open_line, report_of}
 
-length_pattern_line : (w bytes : List ℕ) → length (line w (hexed bytes ∷ [])) ≡ length w + (2 * length bytes + 2)
+pub length_pattern_line : (w bytes : List ℕ) → length (line w (hexed bytes ∷ [])) ≡ length w + (2 * length bytes + 2)
 length_pattern_line w bytes =
     omega (arith, length-append w (32 ∷ (hexed bytes ++ (10 ∷ []))), length-append (hexed bytes) (10 ∷ []), length_hexed bytes)
 

@@ -1,9 +1,9 @@
--- Overlaps that are counted, and what they say of lists. Assumes nothing.
-use Rattle.std.proofs.Common.{◌≡◌, ℕ, ◌+◌, ◌%◌, ◌<◌, Bool, true, false, cond, not, eqb, ◌&&◌, List, [], ◌∷◌, length, filter, sym, refl, ap, ◌∙◌, ap₂, arith}
-use Rattle.std.proofs.Math.Numerals.{add-one}
+-- Overlaps that a flag tells, and what they say of lists. Assumes nothing.
+use Rattle.std.proofs.Common.{◌≡◌, ℕ, ◌<◌, Bool, true, false, cond, not, ◌&&◌, List, [], ◌∷◌, length, filter, sym, refl, ap, ◌∙◌, ap₂, arith}
+use Rattle.std.specs.List.{fold}
 use Rattle.std.proofs.lemmas.Bool.{lt-ltb}
-use Rattle.std.proofs.lemmas.Bool.Decides.{nat_tests}
 use Rattle.patterns.specs.Sets.{Set, ◌⊕◌, has, parity, members, all_below}
+use Rattle.patterns.proofs.Sums.{plus_zero, plus_assoc}
 use Rattle.patterns.proofs.Lists.{has_members, members_within, parity_same, all_below_at, all_below_from}
 use Rattle.matrices.specs.Relations.{listed, tabled}
 use Rattle.matrices.specs.Rows.{entry}
@@ -11,21 +11,22 @@ use Rattle.matrices.proofs.Tables.{length_tabled, listed_tabled}
 use Rattle.written_codes.specs.Listing.{all_even}
 use Rattle.written_codes.specs.Writing.{shares_even}
 
-next_even : (n : ℕ) → eqb ((n + 1) % 2) 0 ≡ not (eqb (n % 2) 0)
-next_even n = grind (arith, nat_tests)
-
--- an even number of the list's places hold an item of the set when an even number pass
-pub even_count : (s : Set) (xs : List ℕ) → eqb (length (filter s xs) % 2) 0 ≡ not (parity s xs)
-even_count s [] = refl
-even_count s (x ∷ xs) = at (s x) (even_count s xs)
+-- the flag that each item of both sets turns tells the overlap's parity, over the flag at the start
+turned : (t s : Set) (xs : List ℕ) (even : Bool) → fold (λ b x. b ⊕ (t x && s x)) even xs ≡ (even ⊕ parity s (filter t xs))
+turned t s [] even = sym (plus_zero even)
+turned t s (x ∷ xs) even = turned t s xs (even ⊕ (t x && s x)) ∙ at (t x)
   where
-    turned : (p : Bool) → not (not p) ≡ not (true ⊕ p)
-    turned true = refl
-    turned false = refl
+    at : (b : Bool) → ((even ⊕ (b && s x)) ⊕ parity s (filter t xs)) ≡ (even ⊕ parity s (cond b (x ∷ filter t xs) (filter t xs)))
+    at true = plus_assoc even (s x) (parity s (filter t xs))
+    at false = ap (λ b. b ⊕ parity s (filter t xs)) (plus_zero even)
 
-    at : (b : Bool) → eqb (length (filter s xs) % 2) 0 ≡ not (parity s xs) → eqb (length (cond b (x ∷ filter s xs) (filter s xs)) % 2) 0 ≡ not (b ⊕ parity s xs)
-    at true e = ap (λ n. eqb (n % 2) 0) (sym (add-one (length (filter s xs)))) ∙ next_even (length (filter s xs)) ∙ ap not e ∙ turned (parity s xs)
-    at false e = e
+-- from a flag that says even: whether the overlap is
+pub even_turned : (t s : Set) (xs : List ℕ) → fold (λ b x. b ⊕ (t x && s x)) true xs ≡ not (parity s (filter t xs))
+even_turned t s xs = turned t s xs true ∙ opposite (parity s (filter t xs))
+  where
+    opposite : (p : Bool) → (true ⊕ p) ≡ not p
+    opposite true = refl
+    opposite false = refl
 
 -- even overlaps of rows are even overlaps of their lists
 pub even_tabled : (n m k : ℕ) (checks generators : List ℕ)

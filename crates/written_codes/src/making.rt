@@ -11,8 +11,9 @@ ghost use Rattle.written_codes.specs.Held.{code_of};
 use crate::written::Written;
 use codes::limits::MOST_WEIGHT;
 use matrices::relation::Relation;
-use matrices::rows::{BitRows, Incidence};
+use matrices::rows::BitRows;
 use matrices::sparse::Sparse;
+use patterns::items::contains;
 use refusals::Refusal;
 use std::alloc::Global;
 
@@ -61,8 +62,16 @@ impl<'a> Sides<'a> {
     fn shares_even(&self, u: u32, g: u32) -> bool
         ensures { result ≡ shares_even self.now.checks.columns self.now.checks.bytes.now self.now.generators.bytes.now u g }
     {
-        let of_check = (0..self.checks.columns).filter(|v| self.checks.joins(u, *v));
-        of_check.filter(|v| self.generators.joins(g, *v)).count() % 2 == 0
+        let check = self.checks.row(u);
+        let generator = self.generators.row(g);
+        let qubits = 0..self.checks.columns;
+        qubits.fold(true, |even, v| {
+            if contains(check, v) && contains(generator, v) {
+                !even
+            } else {
+                even
+            }
+        })
     }
 
     // Whether check u does with each generator.
