@@ -1,5 +1,5 @@
 -- Overlaps that a flag tells, and what they say of lists. Assumes nothing.
-use Rattle.std.proofs.Common.{◌≡◌, ℕ, ◌<◌, Bool, true, false, cond, not, ◌&&◌, List, [], ◌∷◌, length, filter, sym, refl, ap, ◌∙◌, ap₂, arith}
+use Rattle.std.proofs.Common.{◌≡◌, ℕ, ◌<◌, Bool, true, false, not, ◌&&◌, List, [], ◌∷◌, length, map, sym, refl, ap, ◌∙◌, ap₂, arith}
 use Rattle.std.specs.List.{fold}
 use Rattle.std.proofs.lemmas.Bool.{lt-ltb}
 use Rattle.patterns.specs.Sets.{Set, ◌⊕◌, has, parity, members, all_below}
@@ -11,18 +11,14 @@ use Rattle.matrices.proofs.Tables.{length_tabled, listed_tabled}
 use Rattle.written_codes.specs.Listing.{all_even}
 use Rattle.written_codes.specs.Writing.{shares_even}
 
--- the flag that each item of both sets turns tells the overlap's parity, over the flag at the start
-turned : (t s : Set) (xs : List ℕ) (even : Bool) → fold (λ b x. b ⊕ (t x && s x)) even xs ≡ (even ⊕ parity s (filter t xs))
-turned t s [] even = sym (plus_zero even)
-turned t s (x ∷ xs) even = turned t s xs (even ⊕ (t x && s x)) ∙ at (t x)
-  where
-    at : (b : Bool) → ((even ⊕ (b && s x)) ⊕ parity s (filter t xs)) ≡ (even ⊕ parity s (cond b (x ∷ filter t xs) (filter t xs)))
-    at true = plus_assoc even (s x) (parity s (filter t xs))
-    at false = ap (λ b. b ⊕ parity s (filter t xs)) (plus_zero even)
+-- the flag that each place with an item of the set turns tells the parity, over the flag at the start
+turned : (s : Set) (xs : List ℕ) (even : Bool) → fold ◌⊕◌ even (map s xs) ≡ (even ⊕ parity s xs)
+turned s [] even = sym (plus_zero even)
+turned s (x ∷ xs) even = turned s xs (even ⊕ s x) ∙ plus_assoc even (s x) (parity s xs)
 
--- from a flag that says even: whether the overlap is
-pub even_turned : (t s : Set) (xs : List ℕ) → fold (λ b x. b ⊕ (t x && s x)) true xs ≡ not (parity s (filter t xs))
-even_turned t s xs = turned t s xs true ∙ opposite (parity s (filter t xs))
+-- from a flag that says even: whether the number of these places is
+pub even_turned : (s : Set) (xs : List ℕ) → fold ◌⊕◌ true (map s xs) ≡ not (parity s xs)
+even_turned s xs = turned s xs true ∙ opposite (parity s xs)
   where
     opposite : (p : Bool) → (true ⊕ p) ≡ not p
     opposite true = refl

@@ -64,14 +64,10 @@ impl<'a> Sides<'a> {
     {
         let check = self.checks.row(u);
         let generator = self.generators.row(g);
-        let qubits = 0..self.checks.columns;
-        qubits.fold(true, |even, v| {
-            if contains(check, v) && contains(generator, v) {
-                !even
-            } else {
-                even
-            }
-        })
+        (0..self.checks.columns)
+            .filter(|v| contains(check, *v))
+            .map(|v| contains(generator, v))
+            .fold(true, |even, shared| even != shared)
     }
 
     // Whether check u does with each generator.

@@ -1,7 +1,8 @@
-use Rattle.std.proofs.Common.{rules, tests, true, not, ◌&&◌, ap, ◌∙◌}
+use Rattle.std.proofs.Common.{rules, tests, true, not, filter, ap, ◌∙◌}
 use Rattle.std.specs.List.{range_with_len}
-use Rattle.std.proofs.lemmas.Iterator.Consumers.{fold_from_yields_List}
-use Rattle.patterns.specs.Sets.{parity, ◌⊕◌}
+use Rattle.std.proofs.lemmas.Iterator.{YieldsList-from_map}
+use Rattle.std.proofs.lemmas.Iterator.Consumers.{YieldsList-at, YieldsList-from_filter, fold_from_yields_List}
+use Rattle.patterns.specs.Sets.{◌⊕◌, parity}
 use Rattle.patterns.proofs.Ranges.{numbers_below, filter_members}
 use Rattle.matrices.specs.Rows.{entry}
 use Rattle.written_codes.proofs.Overlaps.{even_turned}
@@ -13,6 +14,11 @@ returns c =
     let n = sides.checks.columns in
     let t = entry n sides.checks.bytes.now c.args.u in
     let s = entry n sides.generators.bytes.now c.args.g in
-    fold_from_yields_List _ (λ even v. even ⊕ (t v && s v)) true c.fold.result c.fold.ensures.ran (numbers_below n (cc)) (λ a x b q k. search (rules, tests))
-    ∙ even_turned t s (range_with_len 0 n)
+    fold_from_yields_List _ ◌⊕◌ true c.fold.result c.fold.ensures.ran
+    (YieldsList-from_map _ s
+    (YieldsList-at c.map.ensures.source
+    (YieldsList-from_filter _ t (YieldsList-at c.filter.ensures.source (numbers_below n (cc))) c.filter.ensures.closure (λ x b q k. search (rules, tests))))
+    c.map.ensures.closure (λ x b q k. search (rules, tests)))
+    (λ a x b q k. search (rules, tests))
+    ∙ even_turned s (filter t (range_with_len 0 n))
     ∙ ap (λ xs. not (parity s xs)) (filter_members n t)
