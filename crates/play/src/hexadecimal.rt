@@ -19,17 +19,16 @@ pub(crate) fn bytes_of(heap: Global, text: &str) -> anyhow::Result<Vec<u8>> {
         return Ok(bytes);
     }
     for pair in text.as_bytes().chunks(2) {
-        let mut byte: u8 = 0;
-        for digit in pair {
-            let Some(value) = value_of(*digit) else {
-                return Err(anyhow!("a digit is not hexadecimal"));
-            };
-            byte = byte.wrapping_mul(16) | value;
+        match pair {
+            [high, low] => {
+                let (Some(high), Some(low)) = (value_of(*high), value_of(*low)) else {
+                    return Err(anyhow!("a digit is not hexadecimal"));
+                };
+                bytes.push(high.wrapping_mul(16) | low)?;
+            }
+            [last] if value_of(*last).is_some() => return Err(anyhow!("a byte has two digits")),
+            _ => return Err(anyhow!("a digit is not hexadecimal")),
         }
-        if pair.len() < 2 {
-            return Err(anyhow!("a byte has two digits"));
-        }
-        bytes.push(byte)?;
     }
     Ok(bytes)
 }
