@@ -18,17 +18,18 @@ pub(crate) fn bytes_of(heap: Global, text: &str) -> anyhow::Result<Vec<u8>> {
     if text == "-" {
         return Ok(bytes);
     }
-    for pair in text.as_bytes().chunks(2) {
-        match pair {
-            [high, low] => {
-                let (Some(high), Some(low)) = (value_of(*high), value_of(*low)) else {
-                    return Err(anyhow!("a digit is not hexadecimal"));
-                };
-                bytes.push(high.wrapping_mul(16) | low)?;
-            }
-            [last] if value_of(*last).is_some() => return Err(anyhow!("a byte has two digits")),
-            _ => return Err(anyhow!("a digit is not hexadecimal")),
-        }
+    let mut digits = text.bytes();
+    while let Some(first) = digits.next() {
+        let Some(high) = value_of(first) else {
+            return Err(anyhow!("a digit is not hexadecimal"));
+        };
+        let Some(second) = digits.next() else {
+            return Err(anyhow!("a byte has two digits"));
+        };
+        let Some(low) = value_of(second) else {
+            return Err(anyhow!("a digit is not hexadecimal"));
+        };
+        bytes.push(high.wrapping_mul(16) | low)?;
     }
     Ok(bytes)
 }
